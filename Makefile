@@ -1,6 +1,6 @@
 # make test: the merge gate. It holds the public calls against their table, proves every crate from nothing, tries the wrong bodies, and runs all tests and cases.
 # make build: the proved program, as build/strata. make demo: shows it at work.
-# make kept: the same, proved so that `rt check` in a crate's folder and make trials then prove what has changed alone.
+# make kept: as make build, but proved so that `rt check` in a crate's folder and make trials then prove what has changed alone.
 # make doors: the public calls against their table. make links: all that README.md and docs/ name exists, and no page or paragraph is too
 # long. make crate_order: crates.txt and the pages that list crates are in the order of layers. make logic: the program names the logic of
 # this prover. make pictures: draws docs/crates.svg and docs/mounts.svg anew. None of these needs a proof.

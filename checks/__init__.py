@@ -10,8 +10,8 @@ sys.path.insert(1, TOOLS)
 # each file that is started, by the last part of its path
 STARTED = (
     "cases/cases", "fuzz/fuzz", "mounts/mounted", "mounts/under_kernel", "installed/installed", "layers/layers_test",
-    "layers/layers_umoci", "registry/registry", "engines/snapshots", "engines/engines", "engines/fresh", "liar/liar", "speed/bench",
-    "speed/growth", "speed/sandboxes", "speed/sealed_speed", "speed/mounts", "speed/tables",
+    "layers/layers_umoci", "layers/whole_trees", "registry/registry", "engines/snapshots", "engines/engines", "engines/fresh",
+    "liar/liar", "speed/bench", "speed/growth", "speed/sandboxes", "speed/sealed_speed", "speed/mounts", "speed/tables",
     "soak/soak", "threads/threads", "gate/ci", "gate/prove", "gate/costs", "gate/trials", "gate/wrong_bodies", "gate/leave_out",
     "gate/plant", "gate/doors", "gate/links", "gate/crate_order",
     "gate/logic", "gate/pictures", "demo/demo_files", "demo/demo_layout", "demo/record")

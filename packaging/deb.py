@@ -15,6 +15,7 @@ import files
 import install
 
 PYTHON = "/usr/bin/python3"
+MAN, LICENCES = "share/man/", files.DOCUMENTS + "/LICENSE"
 MAINTAINER = "strata maintainers <maintainers@users.noreply.dittanystair.example>"
 CONTROL = """\
 Package: strata
@@ -88,6 +89,12 @@ License: MIT
 License: Apache-2.0
  On Debian systems the whole text is in /usr/share/common-licenses/Apache-2.0.
 """
+# what lintian finds and need not be mended, with why
+OVERRIDES = {
+    "strata": "# not compiled from C; that it is safe with memory is proved\nstrata: hardening-no-fortify-functions\n",
+    "strata-snapshotter": "# containerd calls it by systemd's socket\n"
+                          "strata-snapshotter: package-supports-alternative-init-but-no-init.d-script\n",
+}
 CHANGELOG = """\
 {package} ({version}) unstable; urgency=medium
 
@@ -102,45 +109,54 @@ def packed(data, moment):
 
 
 def gzipped(entry):
-    """A page, a document, or a link to one, as packages have it."""
+    """A man page, or a link to one, as packages have it."""
     if entry.link is not None:
-        return entry._replace(path=entry.path + ".gz", link=entry.link + ".gz")
-    return entry._replace(path=entry.path + ".gz", data=packed(entry.data, 0))
+        return entry._replace(link=entry.link + ".gz")
+    return entry._replace(data=packed(entry.data, 0))
 
 
 def stripped(program):
     """The bytes of the program without its table of symbols, as packages have it."""
     with tempfile.NamedTemporaryFile() as out:
-        subprocess.run(["strip", "--strip-unneeded", "-o", out.name, program], check=True)
+        subprocess.run(["strip", "--strip-unneeded", "-R", ".comment", "-R", ".note", "-o", out.name, program], check=True)
         with open(out.name, "rb") as it:
             return it.read()
 
 
+def packed_place(path):
+    """Where a package has what is installed at a path. Pages stay as they are, so that their links lead somewhere."""
+    if path.startswith(LICENCES):
+        return said_place("strata")
+    if path.startswith(MAN):
+        return path + ".gz"
+    return path.replace("share/zsh/site-functions/", "share/zsh/vendor-completions/")
+
+
 def packaged(entries):
-    """What is installed, with its texts as Debian packs them."""
+    """What is installed, as Debian has it: the file of copyright has the licences."""
     for entry in entries:
-        if entry.path.startswith("share/doc/strata/LICENSE"):
-            # the file of copyright has them
-            continue
-        if entry.path.startswith(("share/man/", "share/doc/")):
-            entry = gzipped(entry)
-        if entry.path.startswith("share/zsh/"):
-            entry = entry._replace(path=entry.path.replace("site-functions", "vendor-completions"))
-        yield entry
+        if not entry.path.startswith(LICENCES):
+            entry = gzipped(entry) if entry.path.startswith(MAN) else entry
+            yield entry._replace(path=packed_place(entry.path))
+
+
+def said_place(package):
+    return "share/doc/%s/copyright" % package
 
 
 def said_of(package, moment):
-    """The entries that say of a package who made it, and when."""
+    """The entries that say of a package who made it, and when, and what lintian may find."""
     log = CHANGELOG.format(package=package, version=files.version(), maintainer=MAINTAINER,
                            date=email.utils.formatdate(moment, False))
     year = email.utils.formatdate(moment).split()[3]
     text = COPYRIGHT.format(year=year, mit=mit_text())
-    return [files.Entry("share/doc/%s/copyright" % package, 0o644, text.encode()),
+    return [files.Entry("share/lintian/overrides/" + package, 0o644, OVERRIDES[package].encode()),
+            files.Entry(said_place(package), 0o644, text.encode()),
             files.Entry("share/doc/%s/changelog.gz" % package, 0o644, packed(log.encode(), 0))]
 
 
 def main_entries(program):
-    for entry in files.entries(program, PYTHON, is_compiled=False):
+    for entry in files.entries(program, PYTHON, is_compiled=False, packed_place=packed_place):
         yield entry._replace(data=stripped(program)) if entry.path == "bin/strata" else entry
     yield files.Entry("share/python3/runtime.d/strata.rtupdate", 0o755, RTUPDATE.encode())
 

@@ -6,6 +6,8 @@ import subprocess
 import sys
 import tempfile
 
+import links
+
 ROOT = os.path.dirname(os.path.dirname(os.path.realpath(__file__)))
 sys.path.insert(0, os.path.join(ROOT, "tools"))
 from strata_format.version import PACKAGES, version
@@ -26,9 +28,10 @@ UNITS = "lib/systemd/system"
 ALONE, WITH_PACKAGES = "IBS", "IB"
 # the folder of the packages that these programs are made of
 MODULES = "lib/strata"
-# what says how it is used, and its limits
-DOCUMENTS = (("README.md",), ("LICENSE-MIT",), ("LICENSE-APACHE",), ("docs", "USE.md"), ("docs", "MOUNTING.md"),
-             ("docs", "LIMITS.md"), ("docs", "ENGINES.md"), ("docs", "PROMISES.md"), ("docs", "SPEED.md"))
+# the folder of pages and pictures, and what stands there beside those of docs/
+DOCUMENTS, BESIDE = "share/doc/strata", ("README.md", "LICENSE-MIT", "LICENSE-APACHE")
+# the snapshotter's own page, to which a link leads from its folder
+SNAPSHOTTER_DOCUMENT = "CONTAINERD.md"
 COMPLETIONS = {
     "bash": "share/bash-completion/completions", "zsh": "share/zsh/site-functions", "fish": "share/fish/vendor_completions.d"}
 
@@ -74,13 +77,20 @@ def launcher(path, module, words, python, flags=ALONE):
 def page(name):
     """A man page, which says the version."""
     data = read("docs", "man", name).replace(b"@VERSION@", version().encode())
-    return Entry("share/man/man%s/%s" % (name[-1], name), 0o644, data)
+    return Entry(page_place(name), 0o644, data)
+
+
+def page_place(name):
+    return "share/man/man%s/%s" % (name[-1], name)
+
+
+def page_names():
+    """The man pages, but that of the snapshotter."""
+    return sorted({*os.listdir(os.path.join(ROOT, "docs", "man"))} - {SNAPSHOTTER_PAGE})
 
 
 def pages():
-    for name in sorted(os.listdir(os.path.join(ROOT, "docs", "man"))):
-        if name != SNAPSHOTTER_PAGE:
-            yield page(name)
+    yield from map(page, page_names())
     yield Entry("share/man/man8/mount.fuse.strata.8", 0o777, link="mount.strata.8")
 
 
@@ -90,21 +100,32 @@ def completions():
             yield Entry("%s/%s" % (folder, name), 0o644, read("packaging", "completions", shell, name))
 
 
-def documents():
-    for names in DOCUMENTS:
-        yield Entry("share/doc/strata/" + names[-1], 0o644, read(*names))
+def document_names():
+    """The pages and pictures that are installed, and the licences, by their paths in the repository."""
+    found = sorted(name for name in os.listdir(os.path.join(ROOT, "docs")) if name.endswith((".md", ".svg")))
+    return [*BESIDE, *("docs/" + name for name in found)]
 
 
-def entries(program, python, is_compiled=True):
+def documents(packed_place):
+    """Pages and pictures. Links in pages lead to where a package has what is installed at a path."""
+    places = {name: "%s/%s" % (DOCUMENTS, os.path.basename(name)) for name in document_names()}
+    linked = {**places, **{"docs/man/" + name: page_place(name) for name in page_names()}}
+    linked = {name: packed_place(place) for name, place in linked.items()}
+    for name, place in places.items():
+        data = read(*name.split("/"))
+        yield Entry(place, 0o644, links.relinked(data.decode(), name, linked).encode() if name.endswith(".md") else data)
+
+
+def entries(program, python, is_compiled=True, packed_place=str):
     """All that is installed, in the order of paths: the program from this file, and what depends on this python3, with its
-    modules compiled for it."""
+    modules compiled for it. `packed_place` says where a package has what is installed at a path."""
     with open(program, "rb") as it:
         found = [Entry("bin/strata", 0o755, it.read())]
     found += [Entry(path, 0o755, launcher(path, module, words, python)) for path, module, words in PROGRAMS]
     found.append(Entry("sbin/mount.fuse.strata", 0o777, link="mount.strata"))
     found.append(Entry(MODULES + "/version", 0o644, version().encode() + b"\n"))
     found += compiled(python) if is_compiled else []
-    return sorted([*found, *modules(PACKAGES), *pages(), *completions(), *documents()])
+    return sorted([*found, *modules(PACKAGES), *pages(), *completions(), *documents(packed_place)])
 
 
 def snapshotter_entries(python):
@@ -112,7 +133,8 @@ def snapshotter_entries(python):
     found = [Entry(SNAPSHOTTER[0], 0o755, launcher(*SNAPSHOTTER, python, WITH_PACKAGES)), page(SNAPSHOTTER_PAGE)]
     for name in os.listdir(os.path.join(ROOT, "packaging", "systemd")):
         found.append(Entry("%s/%s" % (UNITS, name), 0o644, read("packaging", "systemd", name)))
-    found.append(Entry("share/doc/strata-snapshotter/CONTAINERD.md", 0o644, read("docs", "CONTAINERD.md")))
+    place = "share/doc/strata-snapshotter/" + SNAPSHOTTER_DOCUMENT
+    found.append(Entry(place, 0o777, link="../strata/" + SNAPSHOTTER_DOCUMENT))
     return sorted([*found, *modules([SNAPSHOTTER_PACKAGE])])
 
 

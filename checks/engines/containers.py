@@ -1,6 +1,7 @@
 """Checks with containerd and runc: what containers see, many at once, and daemons that are
 killed."""
 import errno
+import json
 import os
 import random
 import signal
@@ -9,8 +10,11 @@ import threading
 import time
 
 from checks.engines import cri, images
-from checks.engines.layers import REFERENCE, run_layers, without_links
+from checks.engines.faults import restart_keeping
+from checks.engines.layers import (
+    FOLDER, REFERENCE, TOLD, chain_digests, run_layers, without_links)
 from checks.engines.machine import HOST, wait_until
+from checks.registry import made
 from checks.registry.tree import shape, tree
 from checks.shared.mounting import hold
 
@@ -65,6 +69,34 @@ def check_the_same_trees(machine):
         hold_same(found["overlayfs"], found["strata"])
         colour = found["strata"]["usr/sudo"][-1]
         hold("an attribute", [("user.colour", b"green")] * (kind == images.ODD), colour)
+        machine.forget(image)
+
+
+def told_of(machine, chain):
+    """What `ctr` shows of why the layer that ends a chain is a folder, or None."""
+    said = json.loads(machine.ctr("snapshots", "--snapshotter", "strata", "info", chain))
+    return said.get("Labels", {}).get(FOLDER)
+
+
+def check_folders_are_told(machine):
+    """A layer with a device that no image holds, and one above the most that strata stacks, stay
+    folders with all above them: `ctr` shows of each why, and the log has a line."""
+    for kind, first, wanted in ((images.ODD, 1, "dev/far: a device of minor number 70000"),
+                                (images.LONG, 128, "layer 129, and strata stacks 128")):
+        image, archive = image_of(machine, kind)
+        machine.bring(archive)
+        machine.run("c", image, "true")
+        chains = chain_digests([made.digest(it) for it in images.layers(kind)])
+        hold("of the image below", None, told_of(machine, chains[first - 1]))
+        whys = [told_of(machine, it) for it in chains[first:first + 2]]
+        if wanted not in whys[0]:
+            hold("the folder", wanted, whys[0])
+        hold("what lies on it", True, whys[1].endswith("%s below it is a folder" % chains[first]))
+        with open(machine.snapshotter.log, encoding="utf-8") as lines:
+            told = {it.rstrip("\n").partition(": ")[2] for it in lines}
+        for chain, why in zip(chains[first:], whys):
+            name, = [it for it in machine.snapshotter.names() if it.endswith("/" + chain)]
+            hold("a line", True, TOLD.partition(": ")[2] % (name, why) in told)
         machine.forget(image)
 
 
@@ -295,10 +327,13 @@ def check_random_kills(machine, count=8):
 
 
 def check_hundreds_of_kills(machine):
+    """The same at length, over mounts that are made ahead and kept for a while."""
+    restart_keeping(machine.snapshotter, "2")
     check_random_kills(machine, 300)
+    restart_keeping(machine.snapshotter, "0")
 
 
-CHECKS = (check_the_same_trees, check_images_as_layers, check_one_mount, check_many_at_once,
+CHECKS = (check_the_same_trees, check_folders_are_told, check_images_as_layers, check_one_mount, check_many_at_once,
           check_daemons_killed, check_servers_killed, check_a_reboot, check_random_kills)
 # only if they are asked for
 LONG = (check_hundreds_of_kills,)

@@ -68,6 +68,49 @@ def is_dead(place):
         return True
 
 
+def restart_keeping(snapshotter, seconds, number=signal.SIGTERM):
+    """Starts it anew; it keeps mounts that nothing lies on for so many seconds."""
+    snapshotter.stop(number)
+    snapshotter.words[snapshotter.words.index("--keep") + 1] = seconds
+    snapshotter.start()
+
+
+def check_kept_mounts(snapshotter):
+    """With --keep an image is mounted before a container asks for it, and the mount stays when the
+    last one goes, but not longer than its layer, than the service, or than is said."""
+    restart_keeping(snapshotter, "1000")
+    snapshotter.layer("one", "", fill)
+    place = snapshotter.root + "/mounts/1"
+    wait_until("it is mounted ahead", snapshotter.servers)
+    servers = snapshotter.servers()
+    for _ in range(2):
+        snapshotter.call("Prepare", key="c", parent="one")
+        hold_mount(snapshotter, "c")
+        snapshotter.call("Remove", key="c")
+        hold("the same mount", (1, servers), (places().count(place), snapshotter.servers()))
+    snapshotter.call("Remove", key="one")
+    hold("what is left", [], snapshotter.left())
+    snapshotter.layer("two", "", fill)
+    wait_until("it is mounted ahead", snapshotter.servers)
+    hold("status", 0, snapshotter.stop())
+    hold("mounts of one that was stopped", [], [it for it in places()
+                                                if it.startswith(snapshotter.root)])
+    snapshotter.start()
+    snapshotter.view("v", "two")
+    snapshotter.call("Remove", key="v")
+    hold("servers", 1, len(snapshotter.servers()))
+    restart_keeping(snapshotter, "1", signal.SIGKILL)
+    wait_until("it is unmounted", lambda: not snapshotter.servers())
+    hold("snapshots", ["two"], snapshotter.names())
+    # while they are mounted ahead, too
+    restart_keeping(snapshotter, "1000")
+    for number in range(8):
+        snapshotter.layer("removed", "", fill)
+        time.sleep(0.02 * number)
+        snapshotter.call("Remove", key="removed")
+    wait_until("nothing is left", lambda: snapshotter.left() == ["snapshots/4"])
+
+
 def check_what_a_killed_one_left(snapshotter):
     """Folders that no snapshot has, images that were begun, folders that were being removed."""
     snapshotter.layer("one", "", fill)
@@ -272,7 +315,8 @@ def check_the_socket_of_systemd(snapshotter):
         kept.close()
 
 
-CHECKS = (check_killed_and_restarted, check_mounts_that_are_gone, check_what_a_killed_one_left,
+CHECKS = (check_killed_and_restarted, check_mounts_that_are_gone, check_kept_mounts,
+          check_what_a_killed_one_left,
           check_random_kills,
           check_refused_roots, check_removed_while_it_is_made, check_removed_while_it_is_committed,
           check_many_at_once, check_a_full_disk, check_the_socket_of_systemd)

@@ -56,12 +56,13 @@ def lowest():
 
 # kinds of images: the odd one's second layer has a device that no image of romfs holds, and an
 # attribute; the linked one's third layer has hard links over those of the lowest (containerd itself
-# refuses links to files of lower layers alone)
-PLAIN, ODD, LINKED = "plain", "odd", "linked"
+# refuses links to files of lower layers alone); the long one has more layers than strata stacks
+PLAIN, ODD, LINKED, LONG = "plain", "odd", "linked", "long"
+LONG_LAYERS = 130
 
 
 def layers(kind=PLAIN):
-    """Archives of three layers."""
+    """Archives of three layers, or of many."""
     more = {"SCHILY.xattr.user.colour": "green"} if kind == ODD else {}
     device = made.entry("dev/far", kind=tarfile.CHRTYPE, devmajor=1, devminor=70000)
     second = [
@@ -79,7 +80,9 @@ def layers(kind=PLAIN):
     if kind == LINKED:
         third += [entry("etc/third", b"anew\n"), hard("home/u/again", "etc/third"),
                   entry("usr/sudo", b"two names\n", mode=0o4711), hard("etc/passwd", "usr/sudo")]
-    return [made.archive(*it) for it in (lowest(), second, third)]
+    more = LONG_LAYERS - 3 if kind == LONG else 0
+    rest = [[entry("opt/o/%d" % number, b"%d" % number)] for number in range(more)]
+    return [made.archive(*it) for it in (lowest(), second, third, *rest)]
 
 
 class Image:

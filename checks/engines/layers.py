@@ -5,13 +5,20 @@ import shutil
 import sqlite3
 import subprocess
 import sys
+import threading
 
 from checks import TOOLS
 from checks.registry import made
 from checks.registry.tree import tree
 from checks.shared.mounting import hold, wait_until
+from strata_snapshotter.image_maker import ImageMaker
+from strata_snapshotter.places import Places
+from strata_snapshotter.snapshots import Snapshots
+from strata_snapshotter.state import Form, Kind
 
 REFERENCE, BLOB = "containerd.io/snapshot.ref", "containerd.io/snapshot/cri.layer-digest"
+# what tells that a layer stays a folder, and why: a label, and a line of the log
+FOLDER, TOLD = "strata/folder", "strata-snapshotter: %s stays a folder, with all above it: %s"
 # which of the facts of checks/registry/tree.py tells how many names a file has
 LINKS = 2
 TIME = 1600000000123456789
@@ -155,9 +162,25 @@ def stays_a_folder(snapshotter, fill):
          (os.path.exists(lower[0] + "/top"), os.path.exists(lower[2] + "/etc/passwd")))
     snapshotter.settled("top")
     hold("usage", 2, snapshotter.call("Usage", key="top").inodes)
+    hold("told of the top one", "middle below it is a folder", told_of(snapshotter, "top"))
+    hold("folders that are told", ["middle", "top"], snapshotter.names('labels."%s"' % FOLDER))
+    snapshotter.stop()
+    snapshotter.start()
+    hold("told of the image", None, told_of(snapshotter, "base"))
+    why = told_of(snapshotter, "middle")
     snapshotter.remove_all()
+    return why, folder_lines(snapshotter)
+
+
+def told_of(snapshotter, name):
+    """What the label says for which a layer stays a folder, or None."""
+    return snapshotter.call("Stat", key=name).info.labels.get(FOLDER)
+
+
+def folder_lines(snapshotter):
+    """The lines of the log that tell folders."""
     with open(snapshotter.log, encoding="utf-8") as lines:
-        return [it for it in lines if "stays a folder" in it]
+        return [it.rstrip("\n") for it in lines if "stays a folder" in it]
 
 
 def attributes_of(path):
@@ -185,11 +208,11 @@ def check_extended_attributes(snapshotter):
 
 
 def check_what_images_do_not_hold(snapshotter):
-    """A name of whiteouts: told by name, and nothing is lost."""
-    lines = stays_a_folder(snapshotter, lambda folder: put(folder, ".wh.x"))
-    hold("lines", 2, len(lines))
-    said = ".wh.x: a layer takes a name that begins with .wh. as a whiteout"
-    hold("the line", True, "middle stays a folder, with all above it: " + said in lines[-2])
+    """A name of whiteouts: told by name in the log and in a label, and nothing is lost."""
+    why, lines = stays_a_folder(snapshotter, lambda folder: put(folder, ".wh.x"))
+    hold("why", ".wh.x: a layer takes a name that begins with .wh. as a whiteout",
+         why.rpartition("/")[2])
+    hold("lines", [TOLD % ("middle", why), TOLD % ("top", "middle below it is a folder")], lines)
 
 
 def check_many_layers(snapshotter):
@@ -201,6 +224,40 @@ def check_many_layers(snapshotter):
     mount, = snapshotter.call("View", key="w", parent="l128").mounts
     lower = dict(it.partition("=")[::2] for it in mount.options)["lowerdir"].split(":")
     hold("files below", [1, 128], [len(os.listdir(it)) for it in lower])
+    why = "layer 129, and strata stacks 128"
+    hold("told", (None, why), (told_of(snapshotter, "l127"), told_of(snapshotter, "l128")))
+    hold("lines", [TOLD % ("l128", why)], folder_lines(snapshotter))
+
+
+def check_what_is_waited_for(snapshotter):
+    """The image that a call waits for is made before those that were committed earlier."""
+    snapshotter.stop()
+    snapshots = without_images(snapshotter)
+    maker, state = snapshots.maker, snapshots.state
+    for name, parent in (("first", ""), ("low", ""), ("high", "low")):
+        snapshots.create("extract-" + name, parent, Kind.ACTIVE, {})
+        snapshots.commit(name, "extract-" + name, {})
+    low, high = (state.find(it).id for it in ("low", "high"))
+    hold("next", "first", maker.next().name)
+    waiting = threading.Thread(target=maker.wait, args=(high,))
+    waiting.start()
+    wait_until("it waits", lambda: maker.waited_for)
+    for number, name in ((low, "low"), (high, "high")):
+        hold("next", name, maker.next().name)
+        with snapshots.lock, state.transaction():
+            state.settle(number, Form.IMAGE, (0, 0))
+    maker.notice()
+    waiting.join()
+    hold("next", "first", maker.next().name)
+    snapshots.close()
+    os.close(snapshots.places.lock)
+    snapshotter.start()
+
+
+def without_images(snapshotter):
+    """The snapshots of a service that was stopped, in this process; no images are made."""
+    ImageMaker.start = lambda self: None
+    return Snapshots(Places(snapshotter.root), snapshotter.program, None, 0)
 
 
 # --- layers that stand ready ---
@@ -408,6 +465,6 @@ def check_sealed_images(snapshotter):
 
 CHECKS = (check_sealed_images, check_a_tree, check_whiteouts_of_all_forms, check_extended_attributes,
           check_what_images_do_not_hold,
-          check_many_layers,
+          check_many_layers, check_what_is_waited_for,
           check_layers_of_a_store, check_shared_servers, check_blobs_at_hand,
           check_blobs_that_are_images, check_lying_labels, check_given_images)

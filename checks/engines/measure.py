@@ -17,6 +17,7 @@ from checks import ROOT
 from checks.engines import cri, images
 from checks.engines.layers import run_layers
 from checks.engines.machine import HOST, wait_until
+from checks.engines.snapshotters import KEEP
 from checks.registry import made
 
 IMAGE = "docker.io/test/python:1"
@@ -260,3 +261,5 @@ def install(machine):
     subprocess.run(words, check=True, stdin=subprocess.DEVNULL, stdout=subprocess.DEVNULL)
     found.words = [place + "/bin/strata-snapshotter", *found.words[3:]]
     found.words.remove("--debug")
+    at = found.words.index(KEEP[0])
+    del found.words[at:at + len(KEEP)]

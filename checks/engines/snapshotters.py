@@ -13,6 +13,8 @@ SCRIPT = os.path.join(TOOLS, "snapshotter.py")
 PYTHONS = (sys.executable, "/usr/bin/python3")
 # as containerd calls it
 SERVICE = "/containerd.services.snapshots.v1.Snapshots/"
+# mounts go with what lies on them, unless a check says another number of seconds
+KEEP = ("--keep", "0")
 IMPORTED = "import grpc, google.protobuf"
 
 
@@ -34,7 +36,7 @@ class Snapshotter:
         self.socket, self.log = os.path.join(folder, "s.sock"), os.path.join(folder, "log")
         self.words = [sys.executable, "-B", SCRIPT, "--root", self.root, "--socket", self.socket,
                       "--strata", program, "--store", os.path.join(folder, "store"),
-                      "--content", os.path.join(folder, "content"), *words]
+                      "--content", os.path.join(folder, "content"), *KEEP, *words]
         self.process = self.channel = None
 
     def start(self):

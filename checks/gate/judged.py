@@ -3,7 +3,7 @@ import re
 
 from checks.gate.trial_edits import bodies_of
 
-GOAL = re.compile(r"note: (?:\./)?(src/\S+):(\d+):\d+: (it is not proved that .*)")
+GOAL = re.compile(r"note: (?:\./)?(src/\S+):(\d+):\d+: (it is not proved that .*|`search` found no proof .*)")
 ERROR = re.compile(r"(?:\./)?((?:src|specs|proofs)/\S+):(\d+):\d+: error\S* (.*)")
 AT_NAME = "only at a name"
 # a proof that names what is not there, and what cites that proof

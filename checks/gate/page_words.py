@@ -17,7 +17,7 @@ MOST = {
     "docs/ENGINES.md": 700,
     "docs/GATE.md": 1000,
     "docs/LIMITS.md": 1200,
-    "docs/MOUNTING.md": 2300,
+    "docs/MOUNTING.md": 2400,
     "docs/NOTEBOOK.md": 4000,
     "docs/PROMISES.md": 2500,
     "docs/SNAPSHOTTER.md": 1000,

@@ -1,8 +1,7 @@
 """Sees that pages and comments speak plain English; part of `python3 checks links`.
 
 PHRASES are turns that readers stumbled over, each with what to say instead. README.md, docs/, the man
-pages, what programs print, and comments and docstrings of Python are held to all of them, comments of
-Rattle's sources to those of SOURCES alone.
+pages, what programs print, and all comments and docstrings are held to them.
 """
 import ast
 import re
@@ -11,7 +10,7 @@ import tokenize
 
 from checks import ROOT
 
-SOURCES = {
+PHRASES = {
     r"who (is|are) not root": "users who are not root, unprivileged users",
     r"go(es)? by": "depends on",
     r"(is|are) told": "is reported, prints",
@@ -25,8 +24,6 @@ SOURCES = {
     r"want of memory": "lack of memory",
     r"in whichever": "in any",
     r"gathered of": "gathered from",
-}
-OF_PAGES = {
     r"of which no": "without",
     r"in (the )?place of": "instead of",
     r"stands? on": "is on, uses",
@@ -46,7 +43,6 @@ OF_PAGES = {
     r"that proves nothing": "without proofs",
     r"of (these|those|them) (it|they) (is|are)": "they are",
 }
-PHRASES = {**SOURCES, **OF_PAGES}
 # what tools print is quoted as it is
 QUOTED = re.compile(r"^\.EX\n.*?^\.EE$|^```.*?^```$|`[^`]*`", re.M | re.S)
 NOT_ROOT = re.compile("users who are not root", re.I)
@@ -54,10 +50,10 @@ TEXT = re.compile(r'"((?:[^"\\]|\\.)*)"', re.S)
 LINE = re.compile(r"^[ \t]*(?://[/!]?|--)(?![-|])(.*)$", re.M)
 
 
-def odd_in(text, phrases):
+def odd_in(text):
     """The odd turns in a text, each with what to say instead."""
     text = NOT_ROOT.sub("", " ".join(QUOTED.sub("", text).split()))
-    for phrase, better in phrases.items():
+    for phrase, better in PHRASES.items():
         for found in re.finditer(r"\b%s\b" % phrase, text, re.I):
             yield "'%s': say %s" % (found[0], better)
 
@@ -69,7 +65,7 @@ def read(path):
 
 def odd_phrases(page):
     """A line for each odd turn of a page."""
-    yield from ("%s: %s" % (page, it) for it in odd_in(read(page), PHRASES))
+    yield from ("%s: %s" % (page, it) for it in odd_in(read(page)))
 
 
 def comments_of(path):
@@ -102,7 +98,7 @@ def odd_texts():
     listed = subprocess.run(["git", "ls-files", "tools/*.py", "crates/strata*/src/*.rt"], cwd=ROOT, stdout=subprocess.PIPE,
                             text=True, check=True)
     for path in listed.stdout.split():
-        yield from ("%s: %s" % (path, it) for it in odd_in(texts_of(path), PHRASES))
+        yield from ("%s: %s" % (path, it) for it in odd_in(texts_of(path)))
 
 
 def odd_comments():
@@ -111,5 +107,4 @@ def odd_comments():
     listed = subprocess.run(["git", "ls-files", *kinds], cwd=ROOT, stdout=subprocess.PIPE, text=True, check=True)
     for path in listed.stdout.split():
         if path not in ("packaging/launcher.py", "checks/gate/phrases.py"):
-            phrases = PHRASES if path.endswith(".py") else SOURCES
-            yield from ("%s: %s" % (path, it) for it in odd_in(comments_of(path), phrases))
+            yield from ("%s: %s" % (path, it) for it in odd_in(comments_of(path)))

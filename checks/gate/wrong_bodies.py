@@ -1,4 +1,4 @@
-"""Tries the wrong bodies of trials/gate/CRATE.edits: python3 checks wrong_bodies [--jobs N] [CRATE..]
+"""Tries the wrong bodies of trials/gate/CRATE.edits: python3 checks wrong_bodies [--jobs N] [--others] [--only NAME].. [CRATE..]
 
 The prover must refuse each. `rt ci` tries those of must-fail/ by a check of the whole crate, which is what the crate's
 proof costs. Here only the function is checked that an edit makes wrong: what its proof takes from others is their
@@ -8,7 +8,8 @@ Each crate is laid into a scratch folder, with the edits of different functions 
 --only` of these functions tries them, over what `rt ci` or `make build` has proved of the crates below. An edit counts
 as refused where a goal of its own function is not proved, or its own written answers are refused at more than a name.
 What no batch shows refused is tried alone. An edit of anything else than a body, as a constant, has a line `by: NAME`
-of the function that is then wrong.
+of the function that is then wrong. --others tries those of trials/CRATE.edits instead, which `make trials` tries over
+what `make kept` kept; --only tries those of these names alone.
 
 A line tells of each edit at what it was refused. The status is 0 where all were.
 """
@@ -32,11 +33,13 @@ from checks.gate.trial_edits import Edit, Misfit, batches_of, bodies_of, togethe
 MOST = 6
 BY = re.compile(r"(?m)^by: *(\S+)\n")
 IMPL = re.compile(r"impl(?:<.*?>)? (?:(\w+)(?:<(.*)>)? for )?&?(?:'\w+ )?(\w+)")
+# of some arguments of a type alone; the name of such a function says them
+OF_ARGUMENTS = re.compile(r"impl(?:<.*?>)? \w+<[^>]*<")
 
 
-def edits_at(crate):
+def edits_at(folder, crate):
     """The edits of a crate as they are written, by their names."""
-    path = "%s/trials/gate/%s.edits" % (ROOT, crate)
+    path = "%s/%s/%s.edits" % (ROOT, folder, crate)
     return written_in(path) if os.path.exists(path) else {}
 
 
@@ -49,10 +52,12 @@ def proved_at(crate):
 
 
 def name_of(file, text, body):
-    """The name that a check gives to a function, by its path in the crate."""
+    """The name that a check gives to a function, by its path in the crate, or the end of that."""
     lines, owner = text.split("\n"), []
     if lines[body.opens].startswith(" ") or lines[body.first].startswith(" "):
         heads = [line for line in lines[:body.first] if line.startswith("impl")]
+        if OF_ARGUMENTS.match(heads[-1]):
+            return body.name
         trait, source, kind = IMPL.match(heads[-1]).groups()
         owner = [kind + (trait or "") + (source if trait == "From" else "")]
     return "::".join([*place_of(file), *owner, body.name])
@@ -104,16 +109,16 @@ class Tried:
         return outcomes
 
 
-def batches(crate, room):
+def batches(place, crate, only, room):
     """The edits of a crate in batches, those of something else than bodies alone."""
     folder = "%s/crates/%s" % (ROOT, crate)
     try:
-        edits = [Edit(name, text, folder) for name, text in edits_at(crate).items()]
+        edits = [Edit(name, text, folder) for name, text in edits_at(place, crate).items() if name in only or not only]
     except Misfit as why:
-        sys.exit("trials/gate/%s.edits: %s" % (crate, why))
+        sys.exit("%s/%s.edits: %s" % (place, crate, why))
     lost = [it.name for it in edits if not it.changes and not BY.search(it.written)]
     if lost:
-        sys.exit("trials/gate/%s.edits: %s changes no body and has no line by:" % (crate, lost[0]))
+        sys.exit("%s/%s.edits: %s changes no body and has no line by:" % (place, crate, lost[0]))
     groups = batches_of([it for it in edits if it.changes], MOST) + [[it] for it in edits if not it.changes]
     return [Tried(crate, group, room) for group in groups]
 
@@ -139,11 +144,14 @@ def say(tried, outcomes, seconds):
 
 
 def main(words):
-    there = sorted(os.path.basename(it)[:-len(".edits")] for it in glob.glob(ROOT + "/trials/gate/*.edits"))
     wanted = argparse.ArgumentParser(prog="wrong_bodies", description="Tries the wrong bodies of trials/gate.")
     wanted.add_argument("crates", nargs="*", metavar="CRATE")
+    wanted.add_argument("--others", action="store_true", help="those of trials/ instead")
+    wanted.add_argument("--only", action="append", default=[], metavar="NAME", help="the edit of this name")
     wanted.add_argument("--jobs", type=int, default=len(os.sched_getaffinity(0)), help="the checks at a time")
     given = wanted.parse_args(words)
+    place = "trials" if given.others else "trials/gate"
+    there = sorted(os.path.basename(it)[:-len(".edits")] for it in glob.glob("%s/%s/*.edits" % (ROOT, place)))
     unknown = [name for name in given.crates if name not in there] + [name for name in there if name not in crates_used()]
     if unknown:
         sys.exit("no wrong bodies of %s" % ", ".join(unknown))
@@ -151,7 +159,7 @@ def main(words):
     with tempfile.TemporaryDirectory(prefix="proved-") as room:
         for name in sorted({other for crate in crates for other in below[crate]}):
             os.symlink(proved_at(name), "%s/%s.rlib" % (room, name))
-        tries = [it for crate in sorted(crates, key=lines_of, reverse=True) for it in batches(crate, room)]
+        tries = [it for crate in sorted(crates, key=lines_of, reverse=True) for it in batches(place, crate, given.only, room)]
         refused = 0
         with concurrent.futures.ThreadPoolExecutor(given.jobs) as pool:
             begun = {pool.submit(timed, it): it for it in tries}

@@ -1,11 +1,14 @@
 """Faults that help: behind strata's line stands which file it is about, and why."""
+import bz2
 import gzip
 import io
+import lzma
 import os
 import re
 import shutil
 import stat
 import struct
+import subprocess
 import tarfile
 
 from checks import ROOT
@@ -57,7 +60,9 @@ def images(root):
         hold("by mount, of " + name, (32, lines.replace("strata-mount", "mount.strata")), (done.status, done.err))
     brought = "`strata-layers pull SOURCE %s` brings it there"
     far = "no such file; `strata-layers pull %s NAME` brings it into the store as image:NAME"
+    of_layout = "no such file; /srv/layout is an OCI layout: `strata-layers /srv/layout:1 FOLDER` makes images of its layers"
     for name, why in (("none:1", "no such file, and no such image in /var/lib/strata; " + brought % "none:1"),
+                      ("none.romfs", "no such file or directory"), ("/srv/layout:1", of_layout),
                       ("docker://host/app:1", far % "docker://host/app:1"), ("oci:none:1", far % "oci:none:1")):
         hold("no file and no image", (1, "image 1: cannot be read\nstrata-mount: image 1 is %s: %s\n" % (name, why)),
              refused(root, name))
@@ -102,8 +107,14 @@ def not_permitted(root):
     done = root.run(*other, "strata-mount", "/srv/lower.romfs", "/srv/upper.romfs", "/mnt/other")
     hold("not permitted", (1, "image 1: cannot be read\nstrata-mount: image 1 is /srv/upper.romfs: permission denied\n"),
          (done.status, done.err))
+    put("/etc/fuse.conf", b"")
+    done = root.run(*other, "strata-mount", "-o", "allow_other", "/srv/lower.romfs", "/mnt/other")
+    hold("the status of allow_other", 1, done.status)
+    hold_in("allow_other", "user_allow_other", done.err.splitlines()[0])
+    if "without modes" in done.err:
+        raise Failed("what is refused is warned of: %s" % done.err)
     hold("mounts", [], places())
-    return "said to a user who may not read an image"
+    return "said to a user who may not read an image, or may not let others in"
 
 
 def device(root):
@@ -146,6 +157,19 @@ def archive(names):
     return held.getvalue()
 
 
+# how archives become images, by their packing
+UNPACKS = {"gzip": "gzip -dc %s | strata-layers image - IMAGE", "zstd": "strata-layers image - IMAGE < %s",
+           "xz": "xz -dc %s | strata-layers image - IMAGE", "bzip2": "bzip2 -dc %s | strata-layers image - IMAGE"}
+
+
+def packed(how, data):
+    """Data compressed."""
+    module = {"gzip": gzip, "xz": lzma, "bzip2": bz2}.get(how)
+    if module is not None:
+        return module.compress(data)
+    return subprocess.run([how, "-c"], input=data, stdout=subprocess.PIPE, check=True).stdout
+
+
 def at(place, letters):
     """Bytes with these letters at a place."""
     return bytes(place) + letters + bytes(2048)
@@ -156,11 +180,14 @@ def kinds(root):
     root.install()
     with open("/srv/lower.romfs", "rb") as it:
         romfs = it.read()
+    packings = [how for how in UNPACKS if how != "zstd" or shutil.which(how)]
     # gzip: RFC 1952; zstd: RFC 8878; squashfs, erofs, ext4: the kernel's include/uapi/linux/magic.h and its places of
     # superblocks; ELF: elf(5); containers: the OCI image layout and what `docker save` writes
     wanted = (
-        (gzip.compress(romfs), "compressed with gzip: unpack it with `gzip -dc %s > IMAGE`, which is a romfs image"),
-        (gzip.compress(archive(["a"])), "compressed with gzip: it contains a tar archive"),
+        *((packed(how, romfs), "compressed with %s: unpack it with `%s -dc %%s > IMAGE`, which is a romfs image\n" % (how, how))
+          for how in packings),
+        *((packed(how, archive(["a"])), "compressed with %s: it contains a tar archive: `%s` makes an image of it\n"
+           % (how, UNPACKS[how])) for how in packings),
         (at(0, bytes.fromhex("28b52ffd")), "compressed with zstd: unpack it with `zstd -dc %s > IMAGE`"),
         (at(0, b"hsqs"), "a squashfs image; strata serves romfs: `unsquashfs -d FOLDER %s`"),
         (at(1024, struct.pack("<I", 0xE0F5E1E2)), "an erofs image; strata serves romfs: `fsck.erofs --extract=FOLDER %s`"),

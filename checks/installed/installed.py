@@ -13,12 +13,12 @@ from checks.installed import commands, faults, mounts, packages, pages, programs
 from checks.installed.roots import apart
 
 CHECKS = (
-    programs.named, programs.early, pages.shown, pages.options, pages.narrow, pages.shells, pages.words_of_fstab, pages.faults,
+    programs.named, programs.early, pages.shown, pages.linked, pages.options, pages.narrow, pages.shells, pages.words_of_fstab, pages.faults,
     packages.same_bytes, packages.uninstalled, packages.unbuilt, commands.in_reference)
 # those that mount
 MOUNTING = (
     programs.alone, programs.lean, programs.links, mounts.typed, mounts.by_fstab, mounts.words, mounts.colons, mounts.stored,
-    mounts.faked, mounts.by_user, mounts.for_others,
+    mounts.faked, mounts.podman_by_user, mounts.by_user, mounts.for_others,
     mounts.dead, mounts.units, traces.debug, traces.stats, traces.progress, faults.images, faults.not_permitted, faults.device,
     faults.kinds, faults.rules, faults.dashes, *strangers.CHECKS, packages.package, packages.beside, packages.archive,
     commands.mounting, commands.readme)

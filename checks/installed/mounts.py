@@ -249,6 +249,22 @@ def for_others(root):
     return "allow_other by a user, with user_allow_other in fuse.conf alone, or in a user namespace"
 
 
+def podman_by_user(root):
+    """`strata-layers podman` tells users what the command that it prints takes of them; root can run it as it is."""
+    root.needs("setpriv")
+    shutil.copytree(os.path.join(ROOT, "demo", "layout"), root.top + "/srv/layout")
+    root.install()
+    other = ("setpriv", "--reuid=%d" % OTHER, "--regid=%d" % OTHER, "--clear-groups")
+    told = "run this in `podman unshare`; elsewhere allow_other needs a line user_allow_other in /etc/fuse.conf\n"
+    for who, wanted in (((), ""), (other, told)):
+        store = "/tmp/store%d" % len(who)
+        hold("pull", 0, root.run(*who, "strata-layers", "pull", "--store", store, "oci:/srv/layout", "app").status)
+        done = root.run(*who, "strata-layers", "podman", "--store", store, "app", store + "-podman")
+        hold("podman", (0, wanted), (done.status, done.err))
+        hold_in("podman", "strata-mount --background -o allow_other,suid,dev", done.out)
+    return "users are sent to podman unshare or to fuse.conf, root isn't"
+
+
 def by_user(root):
     """A line with `user`: an unprivileged user mounts and unmounts, by fusermount3."""
     root.needs("fusermount3", "setpriv")

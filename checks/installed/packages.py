@@ -7,6 +7,7 @@ import sys
 
 from checks import ROOT
 from checks.installed.mounts import STACK, fstab, hold_stack
+from checks.installed.pages import hold_links
 from checks.installed.programs import version
 from checks.installed.roots import LeftOut, hold, hold_in
 
@@ -47,9 +48,10 @@ def package(root):
     done = root.run("dpkg", "-i", path)
     hold("dpkg -i: %s" % done.err, 0, done.status)
     for name in PATHS:
-        name = "/usr/" + name + (".gz" if name.startswith(("share/man", "share/doc")) else "")
+        name = "/usr/" + name + (".gz" if name.startswith("share/man") else "")
         hold(name, True, os.path.exists(name))
     hold("compiled modules", True, any(os.scandir("/usr/lib/strata/strata_mount/__pycache__")))
+    hold_links("/usr/share/")
     os.mkdir("/srv/tree")
     fstab(STACK + " /srv/tree strata ro,nofail 0 0")
     root.good("mount", "-a")
@@ -89,15 +91,15 @@ def unbuilt(root):
 
 
 def linted(root, path):
-    """What lintian finds in this package and the snapshotter's, which must be no error and nothing that it warns of."""
+    """What lintian finds in this package and the snapshotter's: neither errors and warnings, nor what it only informs of."""
     try:
         root.needs("lintian")
     except LeftOut as missing:
         return "left out: %s" % missing
     folder = os.path.dirname(path)
     paths = [os.path.join(folder, name) for name in sorted(os.listdir(folder)) if name.endswith(".deb")]
-    done = root.run("lintian", "--fail-on", "error,warning", *paths)
-    found = [line for line in done.out.splitlines() if line.startswith(("E:", "W:"))]
+    done = root.run("lintian", "--display-info", "--pedantic", "--fail-on", "error,warning,info,pedantic", *paths)
+    found = [line for line in done.out.splitlines() if line.startswith(("E:", "W:", "I:", "P:"))]
     hold("lintian", (2, 0, []), (len(paths), done.status, found))
     return "lintian finds nothing"
 

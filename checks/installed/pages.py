@@ -9,6 +9,7 @@ import subprocess
 import termios
 
 from checks import ROOT
+from checks.gate.links import LINK, headings
 from checks.installed.roots import LeftOut, hold, hold_in
 from strata_mount.options import CLEARS, IGNORED, IGNORED_FRONTS, KERNEL, SETS, STRATA
 
@@ -21,7 +22,7 @@ SHARE = "/usr/local/share/"
 SUBCOMMANDS = ("check", "list", "serve", "socket")
 VERBS = ("image", "convert", "pull", "images", "verify", "remove", "prune", "config", "attributes",
          "seal", "podman")
-NARROW = 60
+NARROW, WIDE = 60, 200
 OPTION = re.compile(r"(?<![\w-])(--[a-z][a-z-]*|-[A-Za-z])(?![\w-])")
 COMPLETED = {"bash": SHARE + "bash-completion/completions/%s", "zsh": SHARE + "zsh/site-functions/_%s",
              "fish": SHARE + "fish/vendor_completions.d/%s.fish"}
@@ -44,6 +45,43 @@ def shown(root):
             hold("what ends %s" % line, "unshare" in line and "--background" in line, "unshare" in line and "umount" in line)
         hold("man %s" % name, text, root.good("man", "--warnings", "-E", "UTF-8", section, name, env=env))
     return "%d pages, without a warning" % len(PAGES + FORMATS)
+
+
+def dead_links(page):
+    """The links of an installed page that lead to no file, or to no heading of one."""
+    with open(page, encoding="utf-8") as it:
+        text = it.read()
+    for target in LINK.findall(text):
+        path, _, heading = target.partition("#")
+        if re.match(r"[a-z]+:", target):
+            continue
+        place = os.path.join(os.path.dirname(page), path) if path else page
+        if not os.path.isfile(place):
+            yield target
+        elif heading:
+            with open(place, encoding="utf-8") as it:
+                if heading not in headings(it.read()):
+                    yield target
+
+
+def hold_links(share):
+    """Each link of each page in a folder of what is installed leads to a file; how many pages there are."""
+    found = [os.path.join(folder, name) for folder, _, names in os.walk(share + "doc/strata")
+             for name in names if name.endswith(".md")]
+    hold("packed pages", [], [name for name in os.listdir(share + "doc/strata") if name.endswith(".md.gz")])
+    for page in found:
+        hold("dead links of " + page, [], [*dead_links(page)])
+    hold("README and USE are pages", {"README.md", "USE.md"}, {"README.md", "USE.md"} & {*map(os.path.basename, found)})
+    return len(found)
+
+
+def linked(root):
+    """Each link of each installed page leads to a file."""
+    root.install()
+    count = hold_links(SHARE)
+    with open(SHARE + "doc/strata-snapshotter/CONTAINERD.md", "rb") as it:
+        hold("the snapshotter's page", True, it.read().startswith(b"# containerd"))
+    return "%d pages without a dead link" % count
 
 
 def of_page(page):
@@ -116,14 +154,15 @@ def on_terminal(words, columns):
 
 
 def narrow(root):
-    """Each help fits a terminal of 60 columns."""
+    """Each help fits a terminal of 60 columns, and those of the two programs for everybody are no wider on others."""
     root.install()
     names = ("strata-mount", "/sbin/mount.strata", "strata-snapshotter", "strata-layers")
     programs = (*([it] for it in names), *(["strata-layers", it] for it in VERBS))
     for words in programs:
-        lines = on_terminal([*words, "--help"], NARROW)
-        hold("an empty help", True, len(lines) > 3)
-        hold("wide lines of %s" % " ".join(words), [], [it for it in lines if len(it) > NARROW])
+        for columns in (NARROW, WIDE) if words[0] in ("strata-mount", "strata-layers") else (NARROW,):
+            lines = on_terminal([*words, "--help"], columns)
+            hold("an empty help", True, len(lines) > 3)
+            hold("wide lines of %s" % " ".join(words), [], [it for it in lines if len(it) > NARROW])
     return "%d helps in %d columns" % (len(programs), NARROW)
 
 

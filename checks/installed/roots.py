@@ -73,7 +73,10 @@ class Root:
         # what stands above the repository hides it
         os.makedirs(self.top + ROOT, exist_ok=True)
         mount("tmpfs", self.top + ROOT, "tmpfs", 0, "mode=755")
-        mount("/dev", self.top + "/dev", None, BIND | REC)
+        # without what others have mounted below it, but with terminals
+        mount("/dev", self.top + "/dev", None, BIND)
+        if os.path.ismount("/dev/pts"):
+            mount("/dev/pts", self.top + "/dev/pts", None, BIND)
         mount("proc", self.top + "/proc", "proc")
         mount("tmpfs", self.top + "/tmp", "tmpfs", 0, "mode=1777")
         mount("tmpfs", self.top + "/run", "tmpfs", 0, "mode=755")

@@ -155,6 +155,25 @@ def no_files(root):
     return "a pipe, a socket, devices, a file of /proc, a loop, an archive that says 8 GiB"
 
 
+def by_number(root):
+    """An image that is named by the number of an open file is refused in one line, which says what to name instead."""
+    begin(root)
+    number, (source, sink) = os.open(LOWER, os.O_RDONLY), os.pipe()
+    os.symlink("/dev/fd/%d" % number, "/srv/link")
+    line = ": strata does not inherit the caller's open files; name "
+    pipes = "a file by its path, or a pipe that mkfifo makes"
+    for command, status in ((("strata-mount", "--background"), 1), (("strata-mount", "--share"), 1), ((HELPER,), NOT_MOUNTED)):
+        for name, wanted in (("/proc/self/fd/%d" % number, LOWER), ("/dev/fd/%d" % number, LOWER), ("/srv/link", LOWER),
+                             ("/proc/%d/fd/%d" % (os.getpid(), number), LOWER), ("/dev/stdin", "/srv/upper.romfs"),
+                             ("/dev/fd/%d" % source, pipes)):
+            with open("/srv/upper.romfs", "rb") as given:
+                done = held_refused(root, name, status, name + line + wanted, *command, name, PLACE,
+                                    stdin=given, pass_fds=(number, source))
+            hold("lines", 1, done.err.count("\n"))
+    os.close(sink)
+    return "in /proc and /dev, by links, of files and pipes"
+
+
 def has_begun(process):
     """Whether strata-mount has read its modules, of which ctypes is one, and has begun, so that SIGINT ends it at once."""
     with open("/proc/%d/maps" % process, encoding="utf-8") as it:
@@ -205,4 +224,4 @@ def over_itself(root):
     return "a mount over strata's program, modules or libraries, /etc, /dev, /proc, /sys, or over a link to its image is refused"
 
 
-CHECKS = (ends, surroundings, odd_words, names, no_files, interrupted, over_itself)
+CHECKS = (ends, surroundings, odd_words, names, no_files, by_number, interrupted, over_itself)

@@ -13,6 +13,7 @@ from checks.layers.lost_attributes import ACCESS, CLOSED, CLOSED_TEXT, GROUP, MA
 from checks.layers.shown_trees import read
 from checks.plain import plain, plain_attributes
 from checks.shared.layer_files import archive, directory, file, hard, images_in, layout_of, symlink
+from checks.shared.pulled import pulled_line
 from strata_format.read_romfs import ReadImage
 
 CAPABILITY = struct.pack("<5I", 0x02000001, 1 << 13, 0, 0, 0)
@@ -134,7 +135,7 @@ def test_kept_of_older_stores(room):
             with open(os.path.join(records, front), "w", encoding="utf-8") as out:
                 json.dump({**value, "maker": 4}, out)
     status, said, told = run_tool("pull", "--store", place, "oci:" + layout, "x:2")
-    expect((status, said, told) == (0, "x:2: 2 layers, 1 of them new\n", []), "printed %r, told %r" % (said, told))
+    expect((status, said, told) == (0, pulled_line("x:2", 2, 1), []), "printed %r, told %r" % (said, told))
 
 
 def test_room_for_lists(room):

@@ -162,6 +162,8 @@ def by_attributes(umoci):
         file("d/ping", b"1", mode=0o755, pax_headers={XATTR + "security.capability": texts(ability)}), hard("d/ping4", "d/ping"),
         file("d/acl", b"2", mode=0o640, pax_headers={XATTR + "system.posix_acl_access": texts(CLOSED)}),
         file("d/many", b"3", pax_headers={XATTR + "user.%d" % number: "v" * number for number in range(1, 40)}),
+        # a record without a value says nothing
+        file("d/none", b"6", pax_headers={XATTR + "user.none": "", XATTR + "user.some": "1"}),
         symlink("l", "d", pax_headers={XATTR + "trusted.link": "x"})], tarfile.PAX_FORMAT))
     umoci.add(archive([
         directory("d", pax_headers={XATTR + "user.both": "2"}), file("d/acl", b"4"),

@@ -7,8 +7,8 @@ import struct
 import sys
 import types
 
-from checks.layers.layer_room import expect
-from checks.shared.layer_files import LAYER, LayoutFolder, archive, file, tag
+from checks.layers.layer_room import expect, run_tool
+from checks.shared.layer_files import LAYER, LayoutFolder, archive, file, layout_of, tag
 from strata_layers import layouts, packing
 
 
@@ -27,6 +27,14 @@ def test_packing(room):
     room.refused(parts.path, "blob ..: no layer of files, but %s+encrypted" % LAYER)
 
 
+def hold_no_zstd(room, layout):
+    """A packing that no program here makes is refused before any layer is made."""
+    store = room.name()
+    status, _, told = run_tool("convert", "--store", store, "--compress", "zstd", layout, room.name())
+    expect((status, len(told)) == (1, 1) and "install the package zstd" in told[0], "told %r" % told)
+    expect(os.listdir(store + "/blobs/sha256") == [], "layers were made")
+
+
 def test_zstd(room):
     data = archive([file("a", b"1" * 3000)])
     # a frame of one block that is not packed: magic, a window for one segment, its size, the block's header
@@ -38,6 +46,7 @@ def test_zstd(room):
         path, os.environ["PATH"] = os.environ["PATH"], ""
         try:
             room.refused(parts.path, "layer 0: zstd needs the program zstd: install the package zstd ..")
+            hold_no_zstd(room, layout_of(room.name(), [data]).path)
         finally:
             os.environ["PATH"] = path
         if shutil.which("zstd") is None:
@@ -133,6 +142,11 @@ def test_documents(room):
     room.refused(name, name + "/oci-layout: no version 1.0.0")
     os.remove(os.path.join(name, "oci-layout"))
     room.refused(name, name + "/oci-layout: no such file or directory")
+    place = room.name()
+    os.mkdir(place)
+    for word in (place, place + ":1"):
+        room.refused(word, "%s/oci-layout: no such file or directory; `strata-layers image %s IMAGE` makes an image of a directory"
+                     % (place, place))
     room.refused(name + "x:y", name + "x:y: no such folder")
     room.refused("oci:x", "oci:x: no such folder; name the folder without oci:")
     room.refused("docker://x/y", "docker://x/y: no such folder; `strata-layers pull` brings images of a registry,"

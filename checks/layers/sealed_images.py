@@ -3,8 +3,10 @@ import hashlib
 import os
 import shutil
 import subprocess
+import threading
 
 from checks.layers.layer_room import expect, expect_lines, run_tool
+from strata_layers import packing, verity
 
 # sizes of files, the digests that fsverity 1.5 printed, how long the trees are that it wrote, and their SHA-256
 STORED = [
@@ -85,3 +87,24 @@ def test_refused_seals(room):
     path = room.path + "/missing"
     expect_lines(*run_tool("seal", path), [path + ": no such file or directory"])
     expect(sorted(os.listdir(room.path)) == ["folder", "pipe"], "left %r" % os.listdir(room.path))
+
+
+def test_no_memory_for_threads(room):
+    """Where no thread can start, digests are taken without one, and what needs one says so in a line."""
+    pieces, before = [bytes([number]) * (1 << 17) for number in range(40)], threading.Thread.start
+    wanted = verity.seal_of(pieces)
+
+    def refused(_):
+        raise RuntimeError("can't start new thread")
+
+    threading.Thread.start = refused
+    try:
+        expect(verity.seal_of(pieces) == wanted, "another digest")
+        if packing.zstd_module() is None and shutil.which("zstd"):
+            try:
+                next(packing.packed_pieces(pieces, "zstd"))
+                expect(False, "zstd was fed without a thread")
+            except MemoryError:
+                pass
+    finally:
+        threading.Thread.start = before

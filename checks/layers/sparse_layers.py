@@ -6,7 +6,7 @@ import struct
 import subprocess
 
 from checks.layers.folder_images import hold_image
-from checks.layers.layer_room import GNU, PAX, LeftOut, expect
+from checks.layers.layer_room import GNU, PAX, LeftOut, expect, run_tool
 from checks.shared.layer_files import archive, directory, entry, file, layout_of
 
 SPARSE = b"S"
@@ -149,3 +149,25 @@ def test_holes_take_no_room(room):
         it.seek(8)
         full, = struct.unpack(">I", it.read(4))
     expect(full > 1 << 30 and found.st_blocks * 512 < 1 << 20, "%d blocks" % found.st_blocks)
+
+
+def test_zeros_take_no_room(room):
+    """Zeros that an archive writes out become a hole, in a layer that is made and in one that is pulled."""
+    made = archive([file("zeros", bytes(8 << 20)), file("a", bytes(range(256)) * 1000), file("more", bytes(300000) + b"1")])
+    folder, new, first, second = (room.name() for _ in range(4))
+    layout = layout_of(room.name(), [made]).path
+    expect(room.convert(layout, folder)[0] == 0, "it was refused")
+    for words in (["convert", "--store", first, layout, new + ":1"], ["pull", "--store", second, "oci:" + new, "x:1"]):
+        status, _, told = run_tool(*words)
+        expect((status, told) == (0, []), "%r: status %d, told %r" % (words, status, told))
+    with open(folder + "/00.romfs", "rb") as it:
+        wanted = it.read()
+    for place in (first, second):
+        blobs = place + "/blobs/sha256/"
+        name, = (it for it in os.listdir(blobs) if not it.endswith(".verity"))
+        with open(blobs + name, "rb") as it:
+            found = it.read()
+            blocks = os.fstat(it.fileno()).st_blocks
+        # the volume's name is the archive's digest where it is known
+        expect(len(found) == len(wanted) and found[512:] == wanted[512:], "other bytes")
+        expect(blocks * 512 < 1 << 20, "%d blocks" % blocks)

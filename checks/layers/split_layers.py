@@ -5,14 +5,15 @@ import os
 import random
 import shutil
 
-from checks.layers.layer_room import PAX, LeftOut, expect, run_tool
+from checks.layers.layer_room import PAX, LeftOut, expect, run_tool, with_hint
 from checks.layers.shown_trees import compare, compare_attributes, shown_tree, wanted_tree
 from checks.layers.taken_layers import random_entry
 from checks.plain import plain_layers
 from checks.shared.layer_files import (archive, character, directory, fifo, file, hard, images_in, layout_of,
                                        symlink)
+from checks.shared.pulled import pulled_line
 from strata_format import image
-from strata_layers import layer_images
+from strata_layers import convert, layer_images
 from strata_layers.store import Store
 from strata_layers.store_images import layers_of
 
@@ -127,7 +128,7 @@ def good(*words):
 
 def hold_pulled(place, layout, name, new):
     output = good("pull", "--store", place, "oci:" + layout, name)
-    expect(output == "%s: 2 layers, %d of them new\n" % (name, new), "printed %r" % output)
+    expect(output == pulled_line(name, 2, new), "printed %r" % output)
 
 
 def hold_stored(room, place, name, archives, owners):
@@ -159,6 +160,9 @@ def test_stores_of_many_images(room):
     hold_pulled(other, again, "z:1", 0)
     layers = hold_stored(room, other, "z:1", [LOW, HIGH], [0] + [1] * 9)
     expect([it.part for it in layers] == [0, *range(len(layers) - 1)], "parts: %r" % layers)
+    os.unlink(Store(other).path_of(layers[5].digits))
+    hold_pulled(other, again, "z:1", 1)
+    hold_pulled(other, again, "z:1", 0)
     good("remove", "--store", other, "y:1")
     expect(good("prune", "--store", other).startswith("0 layers"), "a layer of an image was removed")
     hold_stored(room, other, "y:2", [LOW, HIGH], [0] + [1] * 9)
@@ -175,6 +179,27 @@ def test_folders_of_other_layers(room):
             layout = layout_of(room.name(), [low, high]).path
             good("pull", "--store", place, "oci:" + layout, name)
         hold_stored(room, place, name, [low, high], [0] + [1] * 9)
+
+
+def test_new_layers_are_read_once(room):
+    """A layer that convert has just made is not read and hashed again before it is copied; one that was
+    in the store is."""
+    place, before, read = room.name(), convert.checked_pieces, []
+    layout = layout_of(room.name(), [LOW, HIGH]).path
+
+    def noted(layer, *more):
+        read.append(layer.digits)
+        return before(layer, *more)
+
+    convert.checked_pieces = noted
+    try:
+        for words in ([], ["--compress", "gzip"], ["--tar"]):
+            good("convert", "--store", place + "".join(words), *words, layout, room.name() + ":1")
+            expect(read == [], "%r: read again" % words)
+        good("convert", "--store", place, layout, room.name() + ":1")
+        expect(sorted(read) == sorted(layers_in(place)), "not read: %r" % read)
+    finally:
+        convert.checked_pieces = before
 
 
 def layers_in(place):
@@ -208,6 +233,11 @@ def test_what_was_left_out(room):
     source = "oci:" + layout_of(room.name(), [made]).path
     wanted = ["entries that romfs cannot hold are left out: 2 entries", "  layer 0: c", "  layer 0: c2"]
     line = "layer 0: c: a device of minor number 65536, at most 65535 is held"
-    for words, status, told in ((["--leave-out"], 0, wanted), ([], 1, [line]), (["--leave-out"], 0, wanted[:1])):
+    for words, status, told in ((["--leave-out"], 0, wanted), ([], 1, with_hint([line])), (["--leave-out"], 0, wanted[:1])):
         got = run_tool("pull", "--store", place, *words, source, "x:1")
         expect((got[0], got[2]) == (status, told), "told %r" % (got,))
+    # a layout and a folder have the option, too
+    folder = room.name()
+    got = run_tool("--leave-out", source[4:], folder)
+    expect((got[0], got[2]) == (0, wanted), "told %r" % (got,))
+    expect(sorted(os.listdir(folder)) == ["00.romfs"], "made %r" % os.listdir(folder))

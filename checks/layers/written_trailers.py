@@ -212,10 +212,12 @@ diff -r "$3" "$4"; umount "$3" "$4"
 
 
 def with_and_without(room):
-    """An image with a trailer, and the same without."""
+    """An image with a trailer, of version 2, and the same without."""
     folder, bare = room.name(), room.name()
-    room.convert(layout_of(room.name(), [archive(LOW[:2] + LOW[4:])]).path, folder)
+    marked = file("marked", b"2", pax_headers={"SCHILY.xattr.user.x": "1"})
+    room.convert(layout_of(room.name(), [archive([*LOW[:2], *LOW[4:], marked])]).path, folder)
     data = read(folder + "/00.romfs")
+    expect(b"-attr02-" in data, "there is no second part")
     place = plain_attributes.place(data)
     with open(bare, "wb") as out:
         out.write(data[:place] + bytes(-place % 1024))
@@ -225,7 +227,7 @@ def with_and_without(room):
 def hold_halves(lines):
     """What was printed of both images is the same."""
     hold("a mount by Linux", lines[:len(lines) // 2], lines[len(lines) // 2:])
-    expect(len(lines) >= 10, "Linux shows %r" % lines)
+    expect(len(lines) >= 12, "Linux shows %r" % lines)
 
 
 def test_linux(room):

@@ -26,7 +26,7 @@ from strata_format.system import called, libc
 ALL = ("-o", "allow_other,modeless")
 # what the kernel shows of an owner that it takes for none
 NO_OWNER, SHOWN = 2 ** 32 - 1, 65534
-PR_GET_NO_NEW_PRIVS = 39
+PR_GET_NO_NEW_PRIVS, MS_BIND = 39, 0x1000
 MODULES = ("argparse", "calendar", "csv", "difflib", "textwrap")
 # another tree than the system's own, as debootstrap makes one, which is then taken whole
 TREE = os.environ.get("STRATA_TREE")
@@ -179,11 +179,14 @@ def secrets(room):
     return "/etc/shadow, /root and links into it are closed to others; without a trailer they are open"
 
 
-def overlay_over(room, mount):
-    """An overlay over a mount, on top of which a folder in memory lies."""
+def overlay_over(room, mount, is_in_memory=True):
+    """An overlay over a mount, on top of which a folder in memory lies, or one of the disk."""
     top, at = room.place(), room.place()
     os.chmod(top, 0o755)
-    called(libc.mount(b"tmpfs", top.encode(), b"tmpfs", 0, None))
+    if is_in_memory:
+        called(libc.mount(b"tmpfs", top.encode(), b"tmpfs", 0, None))
+    else:
+        called(libc.mount(top.encode(), top.encode(), None, MS_BIND, None))
     for name in ("upper", "work"):
         os.mkdir(os.path.join(top, name))
     words = "lowerdir=%s,upperdir=%s/upper,workdir=%s/work" % (mount.at, top, top)

@@ -186,7 +186,7 @@ def refused(room):
         (["--strata", text, image, at], 1, "mount.py: %s: Exec format error\n" % text),
         ([image, image], 1, "mount.py: %s/: Not a directory\n" % image),
         (["--strata", missing, image, at], 1, "mount.py: %s: no such program\n" % missing),
-        (["-o", "nonsense", image, at], 1, "mount.py: %s: mount: Invalid argument\n" % at),
+        (["-o", "nonsense", image, at], 1, "mount.py: -o: unknown: nonsense\n"),
         (["-o", "fd=3", image, at], 2, None), (["-o", "remount", image, at], 2, None), ([at], 2, None),
         (["--nonsense", image, at], 2, None)]
     for background in ([], ["--background"]):

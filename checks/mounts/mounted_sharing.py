@@ -334,12 +334,24 @@ def listed(room):
     hold("folder and images", [alone, image, other], row.split()[3:])
     shown_name = open_and_read("/proc/%d/cmdline" % server).decode().split("\0")[0]
     hold("the server's name", "%s@%s" % (os.path.basename(room.program), alone), shown_name)
+    hold_relayed(room, image)
     for at in (one, two, alone):
         umount(at)
     wait_until("all servers' end", lambda: not alive())
     left = json.loads(run(room, "--list", "--json")[1])
     hold("what is listed at the end", [], [it for it in left if it["folder"].startswith(room.folder)])
     return "two folders of one mount and one of another, with images, process, memory and age"
+
+
+def hold_relayed(room, image):
+    """Of a mount with --stats, the program is listed that the relay started."""
+    at = room.place()
+    hold("a mount", (0, "", ""), run(room, "--background", "--stats", room.folder + "/counts", image, at))
+    row, = (it for it in json.loads(run(room, "--list", "--json")[1]) if it["folder"] == at)
+    hold("images with --stats", [image], row["images"])
+    hold("the program", os.path.realpath(room.program), os.readlink("/proc/%d/exe" % row["process"]))
+    hold("memory, age", (True, True), (0 < row["memory"] < 100 << 20, 0 <= row["age"] <= 600))
+    umount(at)
 
 
 def status_of(process):

@@ -3,6 +3,7 @@ read them, and what the kernel makes of capabilities and ACLs. What programs are
 import errno
 import os
 import shutil
+import stat
 import struct
 import subprocess
 import sys
@@ -106,7 +107,7 @@ COPIES = (("cp", "cp -a . \"$0\""), ("tar", "tar --xattrs --xattrs-include='*' -
 
 def lines(text):
     """Programs walk folders in any order: the lines of each file, in one of ours."""
-    return sorted(text.split(b"\n\n"))
+    return sorted(text.split(b"\n\n") if b"\n\n" in text else text.splitlines())
 
 
 def extended(room):
@@ -157,6 +158,68 @@ def stacked_extended(room):
         fails("a stack without any", errno.ENOTSUP, function, mount.path(b"plain"), *words)
     mount.end()
     return "a folder of two layers has the upper one's alone; over a stack without any both calls are ENOTSUP"
+
+
+def largest(room):
+    """The longest value, and names of the greatest length together, as Linux bounds them, each in one reply."""
+    value = bytes(range(256)) * 256
+    names = ["user.%03d" % number + "n" * 247 for number in range(256)]
+    image, = layers_of(room, archive([
+        entry("value", b"1", pax_headers={"SCHILY.xattr.user.x": value.decode("utf-8", "surrogateescape")}),
+        entry("names", b"2", pax_headers={"SCHILY.xattr." + name: "v" for name in names})]))
+    mount = room.mount([image])
+    hold("the value", {"user.x": value}, found(mount.path(b"value")))
+    hold("the names", (names, 65536), (os.listxattr(mount.path(b"names")), sum(len(name) + 1 for name in names)))
+    hold("the last one's value", b"v", os.getxattr(mount.path(b"names"), names[-1]))
+    mount.end()
+    return "a value of %d bytes; %d names of 65,536 bytes" % (len(value), len(names))
+
+
+def asked_of(path):
+    """How often each request came, as --stats counts them."""
+    with open(path, encoding="ascii") as it:
+        rows = [line.split() for line in it if not line.startswith("#")][1:]
+    return {name: int(count) for name, count, *_ in rows}
+
+
+def walked(root):
+    """Looks at all that stands in a folder, and reads it."""
+    for path in paths(root):
+        whole = os.path.join(root, path)
+        if stat.S_ISREG(os.lstat(whole).st_mode):
+            read(whole)
+
+
+def listed(root):
+    """Lists the attributes of all that stands in a folder, if it has such."""
+    for path in paths(root):
+        try:
+            os.listxattr(os.path.join(root, path), follow_symlinks=False)
+        except OSError as fault:
+            hold("to list", errno.ENOTSUP, fault.errno)
+
+
+def asked(room):
+    """Walks and reads, of others than the owner too, ask for no attributes, also where two files of 300 have some."""
+    need_root(room)
+    told = []
+    for marks in ({}, {"user__x": b"1"}):
+        root, count = room.place(), room.place() + "/count"
+        os.chmod(root, 0o755)
+        for number in range(300):
+            put(root, "d%d/f%d" % (number % 3, number), b"%d" % number, **(marks if number in (17, 42) else {}))
+        image = image_of(room, root)
+        for look in (walked, listed):
+            mount = room.mount([image], *ALL, "--stats", count)
+            hold("another user", 0, as_other(room, lambda look=look, at=mount.at: look(at)))
+            mount.end()
+            told.append(asked_of(count))
+    bare, once, some, each = told
+    hold("requests of a walk", bare, some)
+    hold("for attributes", set(), {"GETXATTR", "LISTXATTR"} & {*some})
+    hold("listed", (1, True), (once["LISTXATTR"], each["LISTXATTR"] >= 304))
+    return "a walk over 300 files asks %d times, with attributes or without; listing those asks %d times, or once" % (
+        some["all"], each["LISTXATTR"])
 
 
 def effective(at):
@@ -233,16 +296,31 @@ def enforced(room):
     return "a user that an ACL names reads, a member of the group does not; with --no-xattrs neither does"
 
 
+def overlay_with_attributes(room, mount):
+    """An overlay whose upper folder has users' attributes, as one in memory has from Linux 6.6 on."""
+    top, at = overlay_over(room, mount)
+    try:
+        mark(top, "user.x", b"1")
+    except LeftOut:
+        unmount(at, top)
+        top, at = overlay_over(room, mount, is_in_memory=False)
+        mark(top, "user.x", b"1")
+    return top, at
+
+
+def unmount(*places):
+    for place in places:
+        called(libc.umount2(place.encode(), 0))
+
+
 def copied_up(room):
     """An overlay over a mount shows the attributes, and what is written in it keeps them."""
     need_root(room)
     root = marked(room)
     wanted = every(root)
     mount = room.mount([image_of(room, root)], *ALL)
-    top, at = overlay_over(room, mount)
+    top, at = overlay_with_attributes(room, mount)
     try:
-        # Linux's tmpfs has those of users from 6.6 on
-        mark(top, "user.x", b"1")
         hold("below", wanted, every(at))
         for name in ("home/notes", "etc/closed", "many/f00"):
             with open(os.path.join(at, name), "ab") as out:
@@ -252,10 +330,9 @@ def copied_up(room):
         hold("in the upper folder", wanted["etc/closed"],
              {name: it for name, it in found(top + "/upper/etc/closed").items() if not name.startswith("trusted.overlay.")})
     finally:
-        for place in (at, top):
-            called(libc.umount2(place.encode(), 0))
+        unmount(at, top)
     mount.end()
     return "%d paths in an overlay, three of them copied up with theirs" % len(wanted)
 
 
-CHECKS = (extended, stacked_extended, capable, enforced, copied_up)
+CHECKS = (extended, stacked_extended, largest, asked, capable, enforced, copied_up)

@@ -5,7 +5,7 @@
 KERNEL is the kernel's package, as STRATA_KERNEL names it (checks/shared/other_kernel.py). FOLDER holds a Debian, of which a
 disk is made, or is such a disk already; what is written to it is lost at the end:
 
-    debootstrap --variant=minbase --include=fuse3,git,python3 bookworm FOLDER
+    debootstrap --variant=minbase --include=fuse3,git,python3,attr,acl,libcap2-bin,iputils-ping,rsync bookworm FOLDER
 
 The machine boots from it and runs `checks mounted`, as root or as a user, with so many readers for each mount. Each check may
 take so many times as long as here, since emulated processors are slow. Its lines are passed on as they come, and after them
@@ -43,6 +43,7 @@ mount -t devpts devpts /dev/pts
 chmod 666 /dev/fuse
 [ -e /etc/mtab ] || ln -s ../proc/self/mounts /etc/mtab
 cd /strata
+./busybox ifconfig lo 127.0.0.1
 uname -r
 dmesg -C
 %s

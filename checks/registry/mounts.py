@@ -15,6 +15,7 @@ from checks.registry import made
 from checks.registry.hostile import flip
 from checks.registry.rooms import LAYERS, MOUNT, SECONDS, LeftOut, hold, needs
 from checks.registry.stores import VERITY, mounted_layers
+from checks.shared.pulled import pulled_line
 
 
 def mount(room, *words, folder=None):
@@ -338,7 +339,7 @@ def check_stores_without_digests(room):
                      "-o", "sealed", "app:1")
     hold_not_mounted(room, 1, "its manifest says no fs-verity digest of each layer", "app@" + digest)
     hold("verified", "", room.layers("verify"))
-    hold("pulled", "app:1: 5 layers, 0 of them new\n", room.layers("pull", "oci:" + out, "app:1"))
+    hold("pulled", pulled_line("app:1", 5, 0), room.layers("pull", "oci:" + out, "app:1"))
     hold_sealed(room, digests, "app@" + digest)
     without_digests(room)
     flip(layers[2])

@@ -12,6 +12,7 @@ from checks.registry.hostile import flip, hold_after_end, large_layers
 from checks.registry.loopback import Registry, needs_root, push
 from checks.registry.mounts import converted, hold_sealed
 from checks.registry.rooms import LAYERS, MOUNT, NAME, Failed, LeftOut, hold, needs
+from checks.shared.pulled import pulled_line
 
 HERE = os.path.dirname(os.path.abspath(__file__))
 OTHER = """
@@ -96,7 +97,7 @@ def check_only_what_is_missing(room):
     manifest = two.json(two.top)
     room.layers("pull", "docker://%s/one" % registry.host)
     before = registry.fetched()
-    hold("printed", "two:latest: 5 layers, 2 of them new\n", room.layers("pull", "docker://%s/two" % registry.host))
+    hold("printed", pulled_line("two:latest", 5, 2), room.layers("pull", "docker://%s/two" % registry.host))
     after = registry.fetched()
     wanted = {it["digest"]: it["size"] for it in [*manifest["layers"][3:], manifest["config"]]}
     hold("bytes of blobs", wanted, {it: size - before.get(it, 0) for it, size in after.items() if size != before.get(it, 0)})

@@ -6,6 +6,7 @@ import os
 import re
 import shlex
 import shutil
+import signal
 import stat
 import subprocess
 import tarfile
@@ -14,6 +15,7 @@ from checks import ROOT
 from checks.plain import plain
 from checks.registry import made
 from checks.registry.rooms import LAYERS, LeftOut, hold, shown_by
+from checks.shared.pulled import pulled_line
 
 # the annotation of a layer that says the fs-verity digest of its image
 VERITY = "vnd.strata.layer.verity"
@@ -193,18 +195,41 @@ def check_pull(room):
     room.layers("convert", "--compress", "gzip", source.path, packed, store=elsewhere)
     for number, place in enumerate((plain, packed, source.path)):
         store, name = room.name(), "team/app:v%d" % number
-        hold("printed", "%s: 5 layers, 5 of them new\n" % name, room.layers("pull", "oci:" + place, name, store=store))
+        hold("printed", pulled_line(name, 5, 5), room.layers("pull", "oci:" + place, name, store=store))
         hold("layers", room.blobs(elsewhere), room.blobs(store))
         hold("shown", made.SHOWN, shown_by(room, mounted_layers(room, name.replace("/", "%"), store)))
-        hold("printed again", "other:latest: 5 layers, 0 of them new\n",
+        hold("printed again", pulled_line("other:latest", 5, 0),
              room.layers("pull", "oci:%s:1" % place, "other", store=store))
         hold("images", ["other:latest", name],
              [it.split()[0] for it in room.layers("images", store=store).splitlines()])
         hold("verified", "", room.layers("verify", store=store))
     hold("modes", {0o700, 0o100444}, {stat.S_IMODE(os.stat(store).st_mode)} | {os.stat(it).st_mode for it in
                                      mounted_layers(room, "other:latest", store)})
-    hold("a name of its own", "%s:1: 5 layers, 5 of them new\n" % os.path.basename(plain),
+    hold("a name of its own", pulled_line(os.path.basename(plain) + ":1", 5, 5),
          room.layers("pull", "oci:" + plain))
+
+
+def check_missing(room):
+    """A layer that is missing or has another size is brought again. The others are not read, and pull
+    says so."""
+    source = "oci:" + made.layout(room.name()).path
+    room.layers("pull", source, "a")
+    gone, short, long, changed, _ = mounted_layers(room, "a:latest")
+    for path in (short, long, changed):
+        os.chmod(path, 0o600)
+    os.unlink(gone)
+    os.truncate(short, os.path.getsize(short) - 16)
+    with open(long, "ab") as file:
+        file.write(b"more")
+    with open(changed, "r+b") as file:
+        file.seek(200)
+        file.write(b"XXXX")
+    hold("printed", pulled_line("a:latest", 5, 3), room.layers("pull", source, "a"))
+    done = room.tried("verify")
+    hold("what is wrong", (1, True), (done.returncode, done.stdout.startswith(changed + ": its digest is")))
+    hold("printed", pulled_line("a:latest", 5, 1), room.layers("pull", source, "a"))
+    hold("verified", "", room.layers("verify"))
+    hold("shown", made.SHOWN, shown_by(room, mounted_layers(room, "a:latest")))
 
 
 def check_shared(room):
@@ -215,7 +240,7 @@ def check_shared(room):
                                     made.archive(made.entry("y", b"y"))))
     room.layers("pull", "oci:" + one.path, "one")
     before = room.blobs()
-    hold("printed", "two:latest: 5 layers, 2 of them new\n", room.layers("pull", "oci:" + two.path, "two"))
+    hold("printed", pulled_line("two:latest", 5, 2), room.layers("pull", "oci:" + two.path, "two"))
     hold("how many layers", 7, len(room.blobs()))
     hold("pruned", "0 layers removed, 0 bytes; 0 are in use by a mount\n", room.layers("prune"))
     room.layers("remove", "two")
@@ -246,7 +271,7 @@ def check_rows_of_the_layers_below(room):
     for order in ((0, 1), (1, 0)):
         store = room.name()
         for number, new in [(it, 2) for it in order] + [(it, 0) for it in order]:
-            hold("printed", "a%d:1: 2 layers, %d of them new\n" % (number, new),
+            hold("printed", pulled_line("a%d:1" % number, 2, new),
                  room.layers("pull", "oci:" + sources[number].path, "a%d:1" % number, store=store))
         blobs.append(room.blobs(store))
         for number, it in ((0, 1), (1, 2)):
@@ -290,6 +315,26 @@ def check_names(room):
     for place in (room.name(), os.path.join(room.path, "other", "new")):
         for words in (("images",), ("config", "a:1")):
             room.refused("%s: no store of layers; `strata-layers pull SOURCE NAME` makes one" % place, *words, store=place)
+
+
+def check_hints(room):
+    """What is named that is not there is answered with what to do; and nothing is said to nobody who reads."""
+    room.layers("pull", "oci:" + made.layout(room.name()).path, "a:1")
+    for verb, *more in (("config",), ("config", "--bwrap"), ("podman", "--layers")):
+        room.refused("nosuch: no such image in %s; `strata-layers pull SOURCE nosuch` brings it there, and `strata-layers images` prints"
+                     " those there" % room.store, verb, *more, "nosuch", *[room.name()] * (verb == "podman"))
+    place = room.name()
+    os.mkdir(place)
+    for word in (place, place + ":1"):
+        why = "%s/oci-layout: no such file or directory; `strata-layers image %s IMAGE` makes an image of a directory"
+        room.refused(why % (place, place), "convert", word, room.name())
+        room.refused(why % (place, place), "pull", "oci:" + word, "b")
+    for words in (("images",), ("config", "a")):
+        out, end = os.pipe()
+        os.close(out)
+        done = subprocess.run(room.words(*words), stdout=end, stderr=subprocess.PIPE, env=room.environment, check=False)
+        os.close(end)
+        hold("%s without a reader" % words[0], (-signal.SIGPIPE, b""), (done.returncode, done.stderr))
 
 
 def check_config(room):
@@ -409,5 +454,5 @@ def check_version(room):
     hold("version", "strata-layers %s\n" % version, room.ran("python3", "-B", LAYERS, "--version"))
 
 
-CHECKS = [check_convert, check_compress, check_archives, check_platforms, check_pull, check_shared, check_rows_of_the_layers_below, check_names,
-          check_config, check_lost, check_other_forms, check_examples_of_the_page, check_version]
+CHECKS = [check_convert, check_compress, check_archives, check_platforms, check_pull, check_missing, check_shared, check_rows_of_the_layers_below, check_names,
+          check_hints, check_config, check_lost, check_other_forms, check_examples_of_the_page, check_version]

@@ -13,9 +13,10 @@ the last sandbox can take. Beside strata, and strata with --share: squashfuse_ll
 fuse-overlayfs and the kernel's overlayfs on the folder itself, and bwrap without a mount. Those
 that are not here are left out, by name.
 
-strata is installed into a folder of its own, so its modules are compiled. What python takes by
-itself is printed, too. The tree is FOLDER, or one of N paths (14,496) with 4 KiB a file. It judges
-nothing: the status is 0 where all sandboxes print the file. It takes root.
+Printed is the table of docs/SPEED.md, and below it when the last of N sandboxes printed and what
+python takes by itself. strata is installed into a folder of its own, so its modules are compiled; the
+image is made by strata-layers. The tree is FOLDER, or one of N paths (14,496) with 4 KiB a file. It
+judges nothing: the status is 0 if all sandboxes print the file. It takes root.
 """
 import argparse
 import os
@@ -30,13 +31,14 @@ import time
 
 from checks import ROOT
 from checks.shared.mounting import Failed, adopt, children, enter
+from checks.speed.mounts import two_digits
 
 NAME, DATA = "first", b"a sandbox has begun\n"
 FILES_EACH, FILE_SIZE = 11, 4096
 SANDBOX = ("bwrap --ro-bind /usr /usr --symlink usr/bin /bin --symlink usr/lib /lib "
            "--symlink usr/lib64 /lib64 --dev /dev --proc /proc --unshare-all %s cat %s")
 PREFIX = "/usr/local"
-ROW = "%-16s %8s %8s %10s %8s %8s %8s"
+HEAD = "First ms", "Processor ms", "%d: median s", "Processor s", "MiB (PSS)"
 
 
 class Kind:
@@ -74,18 +76,18 @@ def kinds(scratch, program, folder):
     os.mkdir(empty)
     image, packed = scratch + "/tree.romfs", scratch + "/tree.squashfs"
     layers = installed + PREFIX + "/bin/strata-layers"
-    subprocess.run(["genromfs", "-d", folder, "-f", image, "-V", "tree"], check=True)
-    subprocess.run([layers, "attributes", folder, image], check=True, stdout=subprocess.DEVNULL)
+    subprocess.run([layers, "image", folder, image], check=True, stdout=subprocess.DEVNULL,
+                   stderr=subprocess.DEVNULL)
     if shutil.which("mksquashfs"):
         subprocess.run(["mksquashfs", folder, packed, "-quiet", "-no-progress"], check=True)
     mount = installed + PREFIX + "/bin/strata-mount"
     below = "lowerdir=%s:%s" % (empty, folder)
     return (Kind("strata", "%s --background %s DIR" % (mount, image)),
-            Kind("strata --share", "%s --share %s DIR" % (mount, image)),
+            Kind("strata `--share`", "%s --share %s DIR" % (mount, image)),
             Kind("squashfuse_ll", "squashfuse_ll %s DIR" % packed, "squashfuse_ll", "mksquashfs"),
             Kind("fuse-overlayfs", "fuse-overlayfs -o %s DIR 2>/dev/null" % below,
                  "fuse-overlayfs"),
-            Kind("overlayfs", "mount -t overlay overlay -o %s DIR" % below),
+            Kind("overlayfs (kernel)", "mount -t overlay overlay -o %s DIR" % below),
             Kind("no mount", None))
 
 
@@ -165,16 +167,16 @@ def python_alone(count):
     return time.monotonic() - start, used() - before
 
 
-def told(name, ones, many):
-    def middle(figure, runs=many):
-        return statistics.median(map(figure, runs))
+def middle(figure, runs):
+    return statistics.median(map(figure, runs))
 
-    first = middle(lambda it: it.clock[0], ones)
-    processor = middle(lambda it: it.processor, ones)
-    return ROW % (name, "%.0f" % (first * 1e3), "%.0f" % (processor * 1e3),
-                  "%.2f" % middle(lambda it: statistics.median(it.clock)),
-                  "%.2f" % middle(lambda it: it.clock[-1]), "%.2f" % middle(lambda it: it.processor),
-                  "%.1f" % middle(lambda it: it.memory))
+
+def row(name, ones, many):
+    """The row of a kind of mount."""
+    first, processor = middle(lambda it: it.clock[0], ones), middle(lambda it: it.processor, ones)
+    cells = [first * 1e3, processor * 1e3, middle(lambda it: statistics.median(it.clock), many),
+             middle(lambda it: it.processor, many), middle(lambda it: it.memory, many)]
+    return "| %s | %s |" % (name, " | ".join("0" if it < 0.01 else two_digits(it) for it in cells))
 
 
 def measure(scratch, asked):
@@ -188,10 +190,11 @@ def measure(scratch, asked):
             print("%s: left out: no %s" % (kind.name, ", ".join(kind.missing)))
     ones = in_turns(scratch, here, folder, 1, asked.runs)
     many = in_turns(scratch, here, folder, asked.count, asked.rounds)
-    middle = "%d: median" % asked.count
-    print(ROW % ("", "first ms", "cpu ms", middle, "last s", "cpu s", "MiB"))
+    print("| | %s |\n|---|%s" % (" | ".join(HEAD) % asked.count, "---|" * len(HEAD)))
     for kind in here:
-        print(told(kind.name, ones[kind.name], many[kind.name]))
+        print(row(kind.name, ones[kind.name], many[kind.name]))
+    for kind in here:
+        print("%s: the last of %d after %.2f s" % (kind.name, asked.count, middle(lambda it: it.clock[-1], many[kind.name])))
     one = [python_alone(1) for _ in range(asked.runs)]
     clock, processor = (statistics.median(column) * 1e3 for column in zip(*one))
     print("python3 -I -S -c pass: %.0f ms, %.0f ms of processor; %d at once %.2f s, %.2f s" % (
@@ -208,10 +211,8 @@ def main():
     parser.add_argument("--runs", metavar="N", type=int, default=9)
     parser.add_argument("--rounds", metavar="N", type=int, default=3)
     asked = parser.parse_args()
-    missing = [it for it in ("bwrap", "genromfs") if shutil.which(it) is None]
-    if missing or os.geteuid() != 0:
-        why = "no " + ", ".join(missing) if missing else "it takes root"
-        print("sandboxes: left out: " + why)
+    if shutil.which("bwrap") is None or os.geteuid() != 0:
+        print("sandboxes: left out: " + ("it takes root" if os.geteuid() else "no bwrap"))
         return
     adopt()
     enter()

@@ -1,7 +1,7 @@
 """Times sealed images beside unsealed ones and beside sha256sum: python3 checks sealed_speed PROGRAM [--runs N] [--quick] [PART..]
 
 Each PART is one of reads, readers, start, memory; without one all are measured. Printed are the rows of the
-table of docs/SPEED.md, by SHA-256 and by SHA-512:
+table of docs/SPEED.md, by SHA-256 and by SHA-512, and what each is computed from:
 
 - `reads`: processor time of `serve` for READs of all of a file of 256 MiB, 128 KiB and 4 KiB each, beside that of `sha256sum` or
   `sha512sum` of the image: 1.0 is their pace, 0.5 half of it. Unsealed, the same for comparison.
@@ -86,6 +86,10 @@ def many(folder, count):
     return Image(folder + "/many", items)
 
 
+def clock(taken):
+    return two_digits(taken * 1000) + " ms"
+
+
 def seconds(words, **named):
     """The processor time of a program."""
     done = runs.ended(subprocess.Popen(words, stdin=subprocess.DEVNULL, stdout=subprocess.DEVNULL, stderr=subprocess.PIPE, **named))
@@ -129,16 +133,18 @@ class Speed:
                 sums = lambda: seconds([algorithm + "sum", self.large.path])
                 summed, sealed, plain = least(self.count, sums, self.serving(self.large, algorithm, requests),
                                               self.serving(self.large, None, requests))
-                cells.append("%s (%s beside %s; unsealed %s)" % (
-                    two_digits(summed / sealed), *("%s s" % two_digits(it) for it in (sealed, summed, plain))))
-            yield ("READs of %d KiB, pace beside that of `%s`" % (length // KIB, "`, `".join(it + "sum" for it in ALGORITHMS)), cells)
+                print("%s: %s s; %ssum %s s; unsealed %s s" % (algorithm, two_digits(sealed), algorithm, two_digits(summed),
+                                                               two_digits(plain)))
+                cells.append(two_digits(summed / sealed))
+            yield "READs of %d KiB, pace" % (length // KIB), cells
 
     def readers(self):
         cells = []
         for algorithm in ALGORITHMS:
             one, four = least(self.count, *(lambda it=it: self.read_mount(algorithm, it) for it in (1, 4)))
-            cells.append("%s (%s MiB/s, %s)" % (two_digits(one / four), *(two_digits(self.size() / MIB / it) for it in (one, four))))
-        yield "Four readers beside one, by the clock", cells
+            print("%s: one reader %s MiB/s, four %s" % (algorithm, *(two_digits(self.size() / MIB / it) for it in (one, four))))
+            cells.append(two_digits(one / four))
+        yield "four readers beside one, by the clock", cells
 
     def size(self):
         return os.path.getsize(self.large.path)
@@ -161,12 +167,10 @@ class Speed:
         write(first, init(1))
         kinds = [None, *ALGORITHMS]
         plain, *sealed = least(self.count, *(self.serving(self.many, it, first) for it in kinds))
-        yield ("Until requests are served, %d paths, beside unsealed" % self.paths(),
-               ["%s (%s ms, %s)" % (two_digits(it / plain), two_digits(it * 1000), two_digits(plain * 1000)) for it in sealed])
+        yield "until requests are served, %s paths (unsealed %s)" % (format(self.paths(), ","), clock(plain)), map(clock, sealed)
         if self.has_mounts:
             plain, *sealed = least(self.count, *(lambda it=it: self.mount_seconds(it) for it in kinds))
-            yield ("The same, strata-mount by the clock",
-                   ["%s (%s ms, %s)" % (two_digits(it / plain), two_digits(it * 1000), two_digits(plain * 1000)) for it in sealed])
+            yield "the same with strata-mount, by the clock (unsealed %s)" % clock(plain), map(clock, sealed)
 
     def paths(self):
         return (FOLDERS // 10 if self.is_quick else FOLDERS) * (FILES + 1)
@@ -179,10 +183,9 @@ class Speed:
         return taken
 
     def memory(self):
-        for image, name in ((self.many, "%d paths" % self.paths()), (self.large, "a file of %d MiB" % (self.size() // MIB))):
-            found = {it: min(self.mount_memory(image, it) for _ in range(3)) for it in (None, *ALGORITHMS)}
-            yield ("Memory beside an unsealed mount, %s" % name, ["%d KiB, %d of them digests" % (
-                (found[it] - found[None]) // KIB, image.held[it] // KIB) for it in ALGORITHMS])
+        found = {it: min(self.mount_memory(self.many, it) for _ in range(3)) for it in (None, *ALGORITHMS)}
+        yield "memory beside that of an unsealed mount", ["%d KiB, digests %d" % (
+            (found[it] - found[None]) // KIB, self.many.held[it] // KIB) for it in ALGORITHMS]
 
     def mount_memory(self, image, algorithm):
         mount = self.room.mount([image.path], *image.words(algorithm)[:-1])
@@ -198,7 +201,7 @@ MOUNTED = ("readers", "memory")
 
 def measure(room, asked, has_mounts):
     speed = Speed(room, asked, has_mounts)
-    print("| Sealed images | SHA-256 | SHA-512 |\n|---|---|---|", flush=True)
+    print("| | SHA-256 | SHA-512 |\n|---|---|---|", flush=True)
     for part in asked.parts or PARTS:
         for name, cells in getattr(speed, part)() if has_mounts or part not in MOUNTED else ():
             print("| %s | %s |" % (name, " | ".join(cells)), flush=True)

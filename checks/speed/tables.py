@@ -1,11 +1,11 @@
 """Measures the tables of docs/SPEED.md in one run: python3 checks tables PROGRAM [--quick] [--write] [PART..]
 
 Each PART is a heading of the page, in lower case with _ for blanks: requests, until_requests_are_served,
-growth, workers, mounts, hostile_inputs; without one all are measured. The tables are printed as the
-page has them. `--write` puts them into docs/SPEED.md, the mounts also into README.md, and draws
-docs/growth.svg and docs/mounts.svg. `--quick` measures smaller inputs, once, to try the script: its
-figures mean nothing. Times but those of mounts are processor time, user and system. Run it on a
-quiet machine, as root; it takes about a quarter of an hour.
+growth, workers, a_sandbox_each, mounts, sealed_images, hostile_inputs; without one all are measured. The
+tables are printed as the page has them. `--write` puts them into docs/SPEED.md, the mounts also into
+README.md, and draws docs/growth.svg and docs/mounts.svg. `--quick` measures smaller inputs, once, to try
+the script: its figures mean nothing. Times are processor time, user and system, unless the page says
+otherwise. Run it on a quiet machine, as root; it takes about a quarter of an hour.
 """
 import argparse
 import os
@@ -29,7 +29,9 @@ BULK = {"bulk_reads": "READs of 128 KiB", "bulk_rows": "READDIRPLUS of 128 KiB",
         "bulk_mix": "READs and READDIRPLUS of 16 KiB, GETATTRs", "bulk_lists": "READDIR of 128 KiB"}
 FRONT_ROWS = (("find", 0), ("tar", 0), ("grep", 0), ("find", 1))
 STATES = ("fresh mount", "once more")
-PARTS = ("requests", "until_requests_are_served", "growth", "workers", "mounts", "hostile_inputs")
+PARTS = ("requests", "until_requests_are_served", "growth", "workers", "a_sandbox_each", "mounts", "sealed_images",
+         "hostile_inputs")
+FEW_SANDBOXES = "--paths", "240", "--count", "2", "--runs", "1", "--rounds", "1"
 
 
 def table(head, rows):
@@ -64,11 +66,11 @@ class Tables:
         found = self.figures("serve", "lookups", "sockets")
         (served, most, copied), (lookups, attributes) = found["serve"], found["lookups"]
         at_socket, pipes = found["sockets"]
-        return table(("A million requests", "strata", "Beside"), [
+        return table(("A million requests", "strata", "For comparison"), [
             ("LOOKUP and GETATTR, 5,000 files", "%s, %s" % (seconds(served), memory(most)),
              "`cat` of the same bytes: " + seconds(copied)),
             ("LOOKUP, 100,000 files", seconds(lookups), "GETATTR, 1,000 files: " + seconds(attributes)),
-            ("the first at a Unix socket", seconds(at_socket), "through pipes: " + seconds(pipes))])
+            ("the first stream at a Unix socket", seconds(at_socket), "through pipes: " + seconds(pipes))])
 
     def until_requests_are_served(self):
         parts = 10 if self.is_quick else 1
@@ -103,10 +105,21 @@ class Tables:
         found = self.figures("workers")["workers"]
         return table(("Replies", "One worker", "Four"), [(BULK[name], *map(seconds, times)) for name, *times in found])
 
-    def mounts(self):
-        words = [sys.executable, "-B", ROOT + "/checks", "mounts", self.program, *["--quick"] * self.is_quick]
+    def printed(self, name, *quick):
+        """The table that a check of its own prints."""
+        words = [sys.executable, "-B", ROOT + "/checks", name, self.program, *(quick if self.is_quick else ())]
         done = subprocess.run(words, stdout=subprocess.PIPE, check=True, text=True)
+        print(done.stdout, flush=True)
         return [line for line in done.stdout.splitlines() if line.startswith("|")]
+
+    def a_sandbox_each(self):
+        return self.printed("sandboxes", *FEW_SANDBOXES)
+
+    def mounts(self):
+        return self.printed("mounts", "--quick")
+
+    def sealed_images(self):
+        return self.printed("sealed_speed", "--quick")
 
     def hostile_inputs(self):
         found = self.figures("check", "stacks", "streams", "pulls")

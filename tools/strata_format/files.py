@@ -82,6 +82,11 @@ def write_all(file, data):
         left = left[file.write(left):]
 
 
+def is_zeros(data):
+    """Whether bytes, of which there are some, are zeros."""
+    return data[0] == data[-1] == 0 and data == bytes(len(data))
+
+
 def write_at(number, data, at):
     """Writes bytes over those at a place of an open file."""
     while data:

@@ -7,7 +7,7 @@ import os
 import struct
 
 from strata_format import trailer
-from strata_format.files import write_all, write_at
+from strata_format.files import is_zeros, write_all, write_at
 from strata_format.image_tree import Directory, Link
 from strata_format.refused import Refused
 from strata_format.romfs import (DIRECTORY, EXECUTABLE, HARD, HEAD_SIZE, MAGIC, header, header_size,
@@ -15,7 +15,8 @@ from strata_format.romfs import (DIRECTORY, EXECUTABLE, HARD, HEAD_SIZE, MAGIC, 
 
 # so many bytes are gathered before they are written, and copied from a file at once
 ROOM = 1 << 20
-HOLE_LEAST = 1 << 16
+# so many zeros become a hole, and so many other bytes are not copied to those that were gathered
+HOLE_LEAST = MANY = 1 << 16
 # a stranger may write different lists of extended attributes without end, and they stay in memory
 LISTS_MOST = 64 << 20
 # a directory's `.` and `..`
@@ -52,9 +53,13 @@ class Part:
 
     def put(self, data):
         """Appends bytes."""
+        self.at += len(data)
+        if len(data) >= MANY:
+            self.flush()
+            write_all(self.out, data)
+            return
         self.gathered.append(data)
         self.gathered_size += len(data)
-        self.at += len(data)
         if self.gathered_size >= ROOM:
             self.flush()
 
@@ -168,6 +173,8 @@ class Part:
         for piece in pieces:
             if isinstance(piece, Hole):
                 self.put_hole(piece.size)
+            elif len(piece) >= HOLE_LEAST and is_zeros(piece):
+                self.put_hole(len(piece))
             else:
                 self.put(piece)
         if self.at - begin != it.size:

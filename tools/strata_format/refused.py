@@ -9,11 +9,16 @@ TOLD_MOST = 10
 
 
 class Refused(Exception):
-    """Why something is refused, as one line; and lines of what else is wrong with it."""
+    """Why something is refused, as one line; and lines of what else is wrong with it. `not_held` says
+    that there is what no image holds among it."""
 
-    def __init__(self, line, others=()):
+    not_held = False
+
+    def __init__(self, line, others=(), not_held=None):
         super().__init__(line)
         self.others = list(others)
+        if not_held is not None:
+            self.not_held = not_held
 
     def lines(self):
         return [str(self), *self.others]
@@ -21,7 +26,7 @@ class Refused(Exception):
     def of(self, words):
         """The same, each line of it said of what the words name."""
         line, *others = ("%s: %s" % (words, it) for it in self.lines())
-        return Refused(line, others)
+        return Refused(line, others, self.not_held)
 
 
 class BadEntry(Refused):
@@ -31,14 +36,17 @@ class BadEntry(Refused):
 class NotHeld(BadEntry):
     """What no image holds. Without this entry it can be made."""
 
+    not_held = True
+
 
 class Faults:
     """What is wrong with entries, of which one must not hide which others there are."""
 
     def __init__(self):
-        self.found, self.more = [], 0
+        self.found, self.more, self.not_held = [], 0, False
 
     def note(self, refused):
+        self.not_held |= refused.not_held
         for line in refused.lines():
             if len(self.found) < TOLD_MOST:
                 self.found.append(line)
@@ -49,7 +57,7 @@ class Faults:
         """Refused where something was noted."""
         if self.found:
             more = [".. and %d more" % self.more] * bool(self.more)
-            raise Refused(self.found[0], self.found[1:] + more)
+            raise Refused(self.found[0], self.found[1:] + more, self.not_held)
 
 
 class faults_below:

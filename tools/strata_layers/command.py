@@ -6,8 +6,8 @@ nothing; existing images are never overwritten. The command that mounts them is 
 romfs cannot hold is reported on standard error, once for each kind. A layout that would lose data
 is refused with one line and status 1. Status 2 means a wrong command line.
 
-OPTIONS are --fail-on-lost, to refuse a layout of which anything is lost, and --no-xattrs, to leave
-out extended attributes.
+OPTIONS are --fail-on-lost, to refuse a layout of which anything is lost, --no-xattrs, to leave out
+extended attributes, and --leave-out, to leave out entries that romfs cannot hold.
 
 It needs no root and unpacks nothing: file data goes straight from the archive into the image.
 Modes, owners and times follow each image, as in strata-attributes(5).
@@ -24,9 +24,11 @@ from strata_format.words import quoted
 
 VERBS = ("image", "convert", "pull", "images", "verify", "remove", "prune", "config", "attributes",
          "seal", "podman")
-HELP_WIDTH = 100
 # what may stand before a layout, by the fields of Lost
-OPTIONS = {"--fail-on-lost": "fails", "--no-xattrs": "bare"}
+OPTIONS = {"--fail-on-lost": "fails", "--no-xattrs": "bare", "--leave-out": "leaves_out"}
+LEFT_OUT = "--leave-out makes it without the entries that romfs cannot hold, and names them"
+# a verb that makes no image leaves nothing out
+HOLDING_ALL = "attributes", "seal"
 
 
 def say(line):
@@ -38,13 +40,12 @@ def say_fault(line):
 
 
 def help_text():
-    import shutil
     import textwrap
+    from strata_layers.verb_help import width_of_help
     name = command("layers")
     lines = ["usage: %s [OPTIONS] LAYOUT[:TAG] FOLDER" % name, "       %s VERB .." % name,
              "       %s -h|--help|-V|--version" % name]
-    # as wide as the terminal, as the help of a verb is
-    width = min(HELP_WIDTH, shutil.get_terminal_size().columns)
+    width = width_of_help()
     verbs = "Each VERB has a --help: %s." % ", ".join(VERBS)
     parts = [verbs, *__doc__.split("\n\n")[1:]]
     text = (textwrap.fill(it, width, break_on_hyphens=False) for it in parts)
@@ -107,6 +108,8 @@ def main(words):
     except Refused as refused:
         for line in refused.lines():
             say_fault(line)
+        if refused.not_held and words[0] not in HOLDING_ALL:
+            say_fault(LEFT_OUT)
     except OSError as fault:
         where = shown(fault.filename if isinstance(fault.filename, (str, bytes)) else words[-1])
         say_fault("%s: %s" % (where, (fault.strerror or str(fault)).lower()))

@@ -9,7 +9,7 @@ from strata_layers.image_archive import archive_pieces
 from strata_layers.layout_images import PACKED_ROMFS, PARENT, PART, ROMFS, all_images, image_of
 from strata_layers.layout_writer import LayoutWriter, check_tag, split_new_name
 from strata_layers.layouts import INDEXES, MANIFESTS, digest_of
-from strata_layers.packing import packed_pieces
+from strata_layers.packing import hold_packing, packed_pieces
 from strata_layers.store import pieces_of
 from strata_layers.store_images import VERITY
 from strata_layers.store_layers import Maker
@@ -30,13 +30,19 @@ def hashed(pieces, found):
 def checked_pieces(layer, number, where, heard):
     """The bytes of an open layer, in pieces; Refused at the end where its digest is wrong."""
     found = hashlib.sha256()
-    for data in pieces_of(number):
+    for data in heard_pieces(number, heard):
         found.update(data)
-        heard(len(data))
         yield data
     if found.hexdigest() != layer.digits:
         raise Refused("%s: the layer sha256:%s has the digest sha256:%s"
                       % (where, layer.digits, found.hexdigest()))
+
+
+def heard_pieces(number, heard):
+    """The bytes of an open layer, in pieces."""
+    for data in pieces_of(number):
+        heard(len(data))
+        yield data
 
 
 class Converter:
@@ -91,8 +97,17 @@ class Converter:
         finally:
             os.close(number)
 
+    def pieces(self, layer, number, heard):
+        """The bytes of an open layer, in pieces, which have its digest. One that this run has made was
+        read for that already."""
+        if layer.digits in self.maker.new:
+            return heard_pieces(number, heard)
+        return checked_pieces(layer, number, self.store.name, heard)
+
     def hold_digest(self, layer, number):
         """Sees that a layer of the store is what its digest says, before it is copied."""
+        if layer.digits in self.maker.new:
+            return
         with Progress("checked", layer.size) as progress:
             for _ in checked_pieces(layer, number, self.store.name, progress.add):
                 pass
@@ -101,7 +116,7 @@ class Converter:
         """The same of a layer that stands in an archive."""
         found = hashlib.sha256()
         with Progress("packed", layer.size) as progress:
-            pieces = checked_pieces(layer, number, self.store.name, progress.add)
+            pieces = self.pieces(layer, number, progress.add)
             pieces = hashed(archive_pieces(layer.size, pieces), found)
             digits, size = self.target.blob(packed_pieces(pieces, self.packing))
         return digits, size, found.hexdigest()
@@ -113,7 +128,7 @@ class Converter:
         if found is not None and self.target.has(*found):
             return found
         with Progress("packed", layer.size) as progress:
-            pieces = checked_pieces(layer, number, self.store.name, progress.add)
+            pieces = self.pieces(layer, number, progress.add)
             found = self.target.blob(packed_pieces(pieces, self.packing))
         self.maker.note_packed(layer, self.packing, found)
         return found
@@ -159,6 +174,7 @@ def convert(store, layout, tag, word, options, lost):
     `LAYOUT[:TAG]`; its folder and tag. `options` has `platform` (None: this machine's), `packing`
     and `tar`."""
     folder, new_tag = new_name(layout, tag, word)
+    hold_packing(options.packing)
     images = images_asked(layout, tag, options.platform)
     with store.locked():
         maker = Maker(store, lost, checks_archives=False)

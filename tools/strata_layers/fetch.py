@@ -42,7 +42,7 @@ def skopeo(*words, folder=None, most=resource.RLIM_INFINITY):
     sends."""
     program = shutil.which("skopeo")
     if program is None:
-        raise Refused("docker:// needs the program skopeo")
+        raise Refused("docker:// needs the program skopeo: install the package skopeo")
     is_shown = words[0] == "copy" and sys.stderr is not None and sys.stderr.isatty()
     done = subprocess.run([program, *words], stdin=subprocess.DEVNULL, stderr=subprocess.PIPE,
                           stdout=sys.stderr if is_shown else subprocess.PIPE,

@@ -4,8 +4,10 @@ import json
 import shlex
 
 from strata_format.refused import Refused
+from strata_layers import user_namespace
 
 HOME = "HOME"
+OUTSIDE = "run it outside, or in one that has him and his groups"
 
 
 def is_text(value):
@@ -79,13 +81,17 @@ def become(user, caller):
         raise Refused("the image's user is %d:%d, and you are %d:%d; root can run it as that user, and"
                       " --as-caller runs it with your rights under that number"
                       % (user.uid, user.gid, *caller))
+    if not user_namespace.has(user):
+        how = "--as-caller runs it with your rights under that number" if user_namespace.is_callers() else OUTSIDE
+        raise Refused("the image's user is %d:%d, which this user namespace does not have; %s"
+                      % (user.uid, user.gid, how))
     groups = ["--groups", ",".join(map(str, user.groups))] if user.groups else ["--clear-groups"]
     return ["setpriv", "--reuid", str(user.uid), "--regid", str(user.gid), *groups, "--inh-caps=-all"]
 
 
 def renumbered(user, caller):
     """The words of bwrap by which the caller's own rights have the user's numbers in the sandbox."""
-    if caller[0] == 0:
+    if caller[0] == 0 and not user_namespace.is_callers():
         raise Refused("--as-caller would give root's rights to the image's user; leave it out")
     return ["--unshare-user", "--uid", str(user.uid), "--gid", str(user.gid)]
 

@@ -4,13 +4,14 @@ its own layers show, as container runtimes find them.
 Of `USER[:GROUP]` each is a name or a number. A name must stand in the image's file; a number need
 not. Without GROUP it is the user's group in passwd, or 0, and the user has the other groups that
 list his name. Without USER it is root, or, where an unprivileged user calls, he. His home is that of
-passwd, or `/`.
+passwd, or `/`. Symbolic links to these files are followed within the image.
 """
 import collections
 import os
 
 from strata_format.refused import Refused, shown
-from strata_layers.below import MARKER, OPAQUE, Below
+from strata_layers.below import Below
+from strata_layers.shown_files import file_at
 from strata_layers.store_images import layers_of
 
 FILE_MOST = 1 << 20
@@ -19,18 +20,6 @@ NUMBER_MOST = (1 << 32) - 2
 # a user's number, his group's, those of his other groups, and the path of his home
 User = collections.namedtuple("User", "uid gid groups home")
 ROOT = 0, 0
-
-
-def file_at(below, folder, name):
-    """The bytes of a file in a folder that stacked layers show, of a large one its beginning; none
-    where no file is shown there."""
-    for image, at in below.folders(folder):
-        members = image.members(at)
-        if name in members:
-            return image.data_at(image.end(members[name]), FILE_MOST)
-        if MARKER + name in members or OPAQUE in members:
-            break
-    return b""
 
 
 def rows_of(data, least):
@@ -89,7 +78,7 @@ def image_user(store, name, text, caller):
     for number in files:
         below.add(number)
         os.close(number)
-    passwd, group = (file_at(below, (b"etc",), it) for it in (b"passwd", b"group"))
+    passwd, group = (file_at(below, (b"etc", it), FILE_MOST) for it in (b"passwd", b"group"))
     if text:
         return user_of(text, passwd, group)
     uid, gid = ROOT if caller[0] == 0 else caller

@@ -33,6 +33,12 @@ def other_form(word):
     return None
 
 
+def is_ordinary(word):
+    """Whether a word names a directory with nothing of a layout at its top."""
+    return os.path.isdir(word) and not any(
+        os.path.lexists(os.path.join(word, it)) for it in ("oci-layout", "index.json", "blobs"))
+
+
 def hint(word):
     """A sentence of what makes a layout of something, or nothing."""
     for end in (len(word), word.find(":")):
@@ -41,6 +47,8 @@ def hint(word):
             archive = " (or oci-archive:)" if transport == "docker-archive" else ""
             return "; `skopeo copy %s:%s oci:LAYOUT:TAG`%s makes a layout of it" % (
                 transport, shown(os.fsencode(word[:end])), archive)
+        if end > 0 and is_ordinary(word[:end]):
+            return "; `strata-layers image %s IMAGE` makes an image of a directory" % shown(os.fsencode(word[:end]))
     return ""
 
 

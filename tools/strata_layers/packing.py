@@ -116,7 +116,12 @@ class Through:
         self.child = subprocess.Popen(words, stdin=subprocess.PIPE, stdout=subprocess.PIPE,
                                       stderr=subprocess.PIPE)
         self.feeding = threading.Thread(target=self.feed, daemon=True)
-        self.feeding.start()
+        try:
+            self.feeding.start()
+        except RuntimeError:
+            self.child.kill()
+            self.child.wait()
+            raise MemoryError from None  # for a thread
 
     def feed(self):
         try:
@@ -236,6 +241,12 @@ def zstd_packed(pieces):
         yield from iter(through.piece, b"")
     finally:
         through.close()
+
+
+def hold_packing(packing):
+    """Looks that there is what packs so."""
+    if packing == "zstd" and zstd_module() is None:
+        zstd_program()
 
 
 def packed_pieces(pieces, packing):

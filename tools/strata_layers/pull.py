@@ -71,7 +71,16 @@ def pull(store, source, name, platform, lost):
         lost.settle()
         text = sealed_text(data, layers)
         put_image(store, name, StoredImage(source, digest, layers, image.config, text))
-    return name, count_of(layers), maker.made_count
+    return name, count_of(layers), count_new(layers, maker.new)
+
+
+def count_new(layers, new):
+    """How many layers have an image that is among new ones."""
+    found = []
+    for it in layers:
+        found += [False] * (it.part == 0 or not found)
+        found[-1] |= it.digits in new
+    return sum(found)
 
 
 def name_said(source):

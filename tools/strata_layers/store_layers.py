@@ -6,7 +6,7 @@ import json
 import os
 
 from strata_format import trailer
-from strata_format.files import copy_front, write_all
+from strata_format.files import copy_front, is_zeros, write_all
 from strata_format.read_romfs import ReadImage
 from strata_format.refused import Refused, shown
 from strata_layers.below import Below
@@ -14,7 +14,7 @@ from strata_layers.image_archive import image_pieces
 from strata_layers.layer_images import LayerWriter, read_blob
 from strata_layers.layout_images import PACKED_ROMFS
 from strata_layers.layouts import LAYERS_MOST, PACKED, digest_of
-from strata_layers.packing import Unpacked
+from strata_layers.packing import PIECE, Unpacked
 from strata_layers.store import SMALL_MOST, digits_of, pieces_of
 from strata_layers.store_images import StoredLayer, layer_json, layer_of_json
 from strata_layers.store_seals import keep_seal, made_digest, noted_digest
@@ -27,7 +27,7 @@ BEFORE = 4
 # above what an image of romfs can have, with all that stands behind it
 UNPACKED_MOST = 1 << 33
 BROKEN = "%s: the layer sha256:%s is broken"
-PIECE = 1 << 20
+ZEROS = bytes(PIECE)
 
 
 # what is known of a blob: the images that were made of it, the lowest first, or None; the digest of
@@ -44,8 +44,8 @@ class Maker:
 
     def __init__(self, store, lost, checks_archives):
         self.store, self.lost, self.checks_archives = store, lost, checks_archives
-        # the blobs of which it is known what is lost
-        self.made_count, self.told = 0, set()
+        # the digits of new images, and the blobs of which it is known what is lost
+        self.new, self.told = set(), set()
 
     # --- what is there ---
 
@@ -162,13 +162,13 @@ class Maker:
 
     def kept(self, new, digits, seal, part):
         """The image in a new file that is whole, which is kept where it isn't there, and so is its
-        tree. A layer is counted by its lowest image."""
+        tree."""
         layer = StoredLayer(digits, os.fstat(new.file.fileno()).st_size, part)
         if noted_digest(self.store, layer) != seal.digest:
             keep_seal(self.store, digits, seal)
         if not self.stored(layer):
             self.store.keep_layer(new, digits)
-            self.made_count += part == 0
+            self.new.add(digits)
         return layer
 
     def fitted(self, it, found, below):
@@ -298,8 +298,14 @@ def write_unpacked(blob, it, file):
     with Sealing() as sealing:
         try:
             for data in image_pieces(iter(lambda: source.read(PIECE), b"")):
-                sealing.add(data)
-                write_all(file, data)
+                # zeros take no room on the disk, and have their digests once
+                if len(data) == len(ZEROS) and is_zeros(data):
+                    sealing.add(ZEROS)
+                    file.seek(len(data), os.SEEK_CUR)
+                else:
+                    sealing.add(data)
+                    write_all(file, data)
+            file.truncate(sealing.size)
         finally:
             source.close()
         seal = sealing.seal()

@@ -1,5 +1,6 @@
 """Help for each verb of strata-layers, and what is wrong with words, by argparse."""
 import argparse
+import shutil
 import sys
 
 from strata_format import ends
@@ -35,12 +36,20 @@ HELP = {
     "seal": "Writes the fs-verity tree of each image to IMAGE.verity, as"
             " fsverity digest --out-merkle-tree does, and prints the image's fs-verity digest.",
     "podman": "Makes DIR, which must be new or empty, an additional image store for podman, with one"
-              " image of the store; prints the command that mounts its files there. With --layers it"
-              " becomes an additional layer store, with a mount for each layer.",
+              " image of the store; prints the command that mounts its files there, for root or"
+              " `podman unshare`. With --layers it becomes an additional layer store, with a"
+              " mount for each layer.",
 }
 
+# no line is wider, as in the help of strata-mount
+HELP_WIDTH = 60
 # options of one field: of these at most one may be said
 CHOSEN = "store_const"
+
+
+def width_of_help():
+    """How wide a help is: at most as the terminal."""
+    return min(HELP_WIDTH, shutil.get_terminal_size().columns)
 
 
 class Parser(argparse.ArgumentParser):
@@ -66,7 +75,9 @@ def refusing(read):
 
 def parsed(verb, words):
     """What words ask of a verb; an end with help, or with what is wrong."""
-    it, table = Parser(prog="%s %s" % (command("layers"), verb), description=HELP[verb]), WORDS[verb]
+    it = Parser(prog="%s %s" % (command("layers"), verb), description=HELP[verb],
+                formatter_class=lambda prog: argparse.HelpFormatter(prog, width=width_of_help()))
+    table = WORDS[verb]
     is_chosen = any(how.get("action") == CHOSEN for _, how in table)
     chosen = it.add_mutually_exclusive_group() if is_chosen else None
     for name, how in table:

@@ -47,7 +47,7 @@ WORDS = {
         "dest": "form", "action": "store_const", "const": "bwrap",
         "help": "print a command of bwrap, with the OPTIONs after NAME"}),
         ("--podman", {"dest": "form", "action": "store_const", "const": "podman",
-                      "help": "print arguments of podman run, before --rootfs"}),
+                      "help": "print podman run's arguments, before --rootfs"}),
         ("--as-caller", {
             "action": SWITCH, "help": "with --bwrap: keep your own rights, under the number of the"
                                       " image's user"}),

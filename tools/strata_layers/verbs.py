@@ -1,14 +1,20 @@
 """The verbs of strata-layers: image, convert, pull, images, verify, remove, prune, config,
 attributes, seal, podman."""
+import _signal as signal
 import collections
 import os
 
 from strata_format import ends
-from strata_format.refused import bytes_of
+from strata_format.refused import Refused, bytes_of
 from strata_format.version import command
 from strata_format.words import quoted
 from strata_layers.lost import Lost
 from strata_layers.verb_words import read
+
+
+# what users other than root need for a mount of podman's
+NOT_ROOT = ("run this in `podman unshare`; elsewhere allow_other needs a line user_allow_other in"
+            " /etc/fuse.conf\n")
 
 
 def print_line(text, done=""):
@@ -25,6 +31,16 @@ def store_of(asked, make=False):
     """The store that is meant."""
     from strata_layers.store import Store, default_place
     return Store(asked.store or default_place(), make)
+
+
+def name_there(store, word):
+    """The whole name of an image that is read; where there is none, with what to do."""
+    from strata_layers.store_images import NoImage, brought, full_name
+    try:
+        return full_name(store, word)
+    except NoImage as refused:
+        why = "%s; %s, and `strata-layers images` prints those there"
+        raise Refused(why % (refused, brought(word))) from None
 
 
 # --- what each verb does: it loads what it needs, as all loads longer than a small image takes ---
@@ -58,7 +74,10 @@ def run_pull(asked):
     told(lost)
     for line in wrong_order_of(image_in(store, name).layers):
         ends.write(line + "\n")
-    print_line("%s: %s, %d of them new" % (name, layers_text(count), new), "the image is in the store")
+    line = "%s: %s, %d of them new" % (name, layers_text(count), new)
+    if new < count:
+        line += ", %d not read again (`strata-layers verify` does that)" % (count - new)
+    print_line(line, "the image is in the store")
     return 0
 
 
@@ -105,9 +124,9 @@ def run_prune(asked):
 
 def run_config(asked):
     from strata_layers.image_config import config_lines
-    from strata_layers.store_images import full_name, image_in
+    from strata_layers.store_images import image_in
     store = store_of(asked)
-    name = full_name(store, asked.name)
+    name = name_there(store, asked.name)
     config = image_in(store, name).config
     if asked.form is None:
         for line in config_lines(config):
@@ -148,9 +167,9 @@ def run_seal(asked):
 def run_podman(asked):
     from strata_layers.podman_layers import LayerStore
     from strata_layers.podman_store import ImageStore, new_or_empty
-    from strata_layers.store_images import full_name, image_in
+    from strata_layers.store_images import image_in
     store = store_of(asked)
-    name = full_name(store, asked.name)
+    name = name_there(store, asked.name)
     kind = LayerStore if asked.layers else ImageStore
     folder = os.path.abspath(asked.folder)
     with new_or_empty(folder):
@@ -158,15 +177,22 @@ def run_podman(asked):
     for images, place in written:
         words = [command("mount"), "--background", "-o", "allow_other,suid,dev", *images, place]
         print_line(quoted(words), "all is written")
+    if os.geteuid() != 0:
+        ends.write(NOT_ROOT)
     return 0
 
 
 RUNS = {"image": run_image, "convert": run_convert, "pull": run_pull, "images": run_images,
         "verify": run_verify, "remove": run_remove, "prune": run_prune, "config": run_config,
         "attributes": run_attributes, "seal": run_seal, "podman": run_podman}
+# those that only print
+PRINTING = "images", "config"
 
 
 def run(verb, words):
+    if verb in PRINTING:
+        # who reads no more of what is printed ends it, as he does any other program
+        signal.signal(signal.SIGPIPE, signal.SIG_DFL)
     asked = read(verb, words)
     if asked is None:
         from strata_layers.verb_help import parsed

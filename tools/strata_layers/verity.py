@@ -76,6 +76,8 @@ class Sealing:
         # what is no whole block yet; what threads are at, each with what it gives; and what they gave
         self.rest, self.waiting, self.found = b"", collections.deque(), []
         self.last = None
+        # whether there was no memory for a thread
+        self.is_alone = False
 
     def __enter__(self):
         return self
@@ -102,13 +104,17 @@ class Sealing:
         self.waiting.append(self.last[1])
 
     def begun(self, data):
-        if len(data) < WORTH:
+        if len(data) < WORTH or self.is_alone:
             found = digests_of(self.algorithm, data)
             return lambda: found
         if self.pool is None:
             from concurrent.futures import ThreadPoolExecutor
             self.pool = ThreadPoolExecutor(min(THREADS, os.cpu_count() or 1))
-        return self.pool.submit(digests_of, self.algorithm, data).result
+        try:
+            return self.pool.submit(digests_of, self.algorithm, data).result
+        except RuntimeError:
+            self.is_alone = True
+            return self.begun(data)
 
     def seal(self):
         """The digest and the tree of the file, which has no more bytes."""

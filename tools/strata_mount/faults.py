@@ -7,7 +7,6 @@ import re
 import resource
 import shlex
 import struct
-import zlib
 
 from strata_format import image_files, romfs
 from strata_format.refused import Refused, shown
@@ -15,7 +14,7 @@ from strata_layers import tars
 from strata_layers.layer_order import split_blob
 from strata_layers.store import default_place
 from strata_layers.store_images import brought, may_be_stored
-from strata_mount import dead_mounts
+from strata_mount import dead_mounts, packed_files
 from strata_mount.meant import SOURCES, pulled
 from strata_mount.plan import TREE
 
@@ -61,9 +60,6 @@ def romfs_again(unpack):
 
 # where the letters stand by which a file is known, and what it then is, with what to do
 KINDS = (
-    (0, b"\x28\xb5\x2f\xfd", "compressed with zstd: unpack it with `zstd -dc {0} > IMAGE`; a container's layer by strata-layers"),
-    (0, b"\xfd7zXZ\0", "compressed with xz: unpack it with `xz -dc {0} > IMAGE`"),
-    (0, b"BZh", "compressed with bzip2: unpack it with `bzip2 -dc {0} > IMAGE`"),
     (0, b"hsqs", "a squashfs image; " + romfs_again("`unsquashfs -d FOLDER {0}`")),
     (1024, b"\xe2\xe1\xf5\xe0", "an erofs image; " + romfs_again("`fsck.erofs --extract=FOLDER {0}`")),
     (1080, b"\x53\xef", "an ext4 image; " + romfs_again("mount it, or `debugfs -R 'rdump / FOLDER' {0}`")),
@@ -127,11 +123,14 @@ def fault_told(path, fault, store):
     if isinstance(fault, FileNotFoundError):
         return not_there(path, store)
     if isinstance(fault, IsADirectoryError):
-        is_layout = os.path.exists(os.path.join(path, "oci-layout"))
-        return "it is %s" % ("an OCI layout; " + OF_LAYOUT if is_layout else "a directory; " + MAKE)
+        return "it is %s" % ("an OCI layout; " + OF_LAYOUT if is_layout(path) else "a directory; " + MAKE)
     if fault.errno in dead_mounts.GONE:
         return dead_mounts.told(os.path.realpath(path), False)
     return fault.strerror.lower()
+
+
+def is_layout(folder):
+    return os.path.exists(os.path.join(folder, "oci-layout"))
 
 
 def not_there(path, store):
@@ -139,6 +138,11 @@ def not_there(path, store):
     bring there."""
     if path.startswith(SOURCES):
         return "no such file; " + pulled(path)
+    folder, colon, _ = path.rpartition(":")
+    if colon and is_layout(folder):
+        return "no such file; %s is an OCI layout: %s" % (shown(folder), OF_LAYOUT.replace("LAYOUT", shown(path)))
+    if path.endswith(".romfs"):
+        return "no such file or directory"
     if may_be_stored(path):
         return "no such file, and no such image in %s; %s" % (shown(store or default_place()), brought(path))
     return "no such file or directory"
@@ -190,25 +194,15 @@ def kind_of(path, front, size):
     name = shlex.quote(path if not path.startswith("-") else "./" + path) if path.isprintable() else "FILE"
     if size == 0:
         return None if image_files.read_once(path) else "the file is empty"
-    if front.startswith(b"\x1f\x8b"):
-        return "compressed with gzip: " + gzipped(front, name)
+    packing = packed_files.packing_of(front)
+    if packing is not None:
+        return packed_files.told(path, name, packing)
     if front[257:262] == b"ustar":
         return archive(path, name)
     for place, letters, words in KINDS:
         if front[place:place + len(letters)] == letters:
             return words.format(name)
     return None
-
-
-def gzipped(front, name):
-    """What to do with a file of gzip, by what it holds."""
-    try:
-        held = zlib.decompressobj(31).decompress(front, 1024)
-    except zlib.error:
-        held = b""
-    if held[257:262] == b"ustar":
-        return "it contains a tar archive: `gzip -dc %s | strata-layers image - IMAGE` makes an image of it" % name
-    return "unpack it with `gzip -dc %s > IMAGE`%s" % (name, ", which is a romfs image" * held.startswith(romfs.MAGIC))
 
 
 def archive(path, name):

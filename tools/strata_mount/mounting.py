@@ -57,7 +57,7 @@ def relay_words(plan, errors, counts):
     if counts is not None:
         words += ["--stats", str(counts)]
         numbers.append(counts)
-    return [*words, "--"], numbers
+    return [*words, "--shown=" + shown_name(plan), "--"], numbers
 
 
 def served(plan, device, errors, counts, confinement):
@@ -175,6 +175,7 @@ def run(plan, counts=None, heard=None):
     cold = [] if plan.whole else read_ahead.cold_ones(plan.images)
     device = mounted(plan)
     try:
+        tell_modes(plan)
         server = served(plan, device, errors, counts, confinement)
         read_ahead.ask(cold)
         status = waited(plan, server, errors, bell)
@@ -225,6 +226,7 @@ def attempt(plan):
         if not plan.is_printed:
             preconditions.hold_folder(plan)
         preconditions.find_images(plan)
+        preconditions.hold_by_path(plan)
         preconditions.hold_digests(plan)
         preconditions.hold_names(plan)
         program = found_program(plan.program)
@@ -235,9 +237,6 @@ def attempt(plan):
             plan.folder = os.path.realpath(plan.folder)
             preconditions.hold_images(plan)
         hold_descriptors()
-        if "allow_other" in plan.words:
-            from strata_mount import modes
-            modes.tell(plan)
         if plan.replace and not plan.is_printed:
             preconditions.clear(plan)
         if plan.share:
@@ -245,13 +244,23 @@ def attempt(plan):
             return sharing.attempt(plan)
         return run(plan, counts_of(plan))
     except OSError as fault:
+        unknown = Options(",".join(plan.words)).unknown
+        if fault.errno == errno.EINVAL and unknown:
+            plan.say("-o: unknown: %s" % one_line(", ".join(unknown)))
         plan.say_fault(fault)
-        for line in hints(fault, plan):
+        for line in hints(fault):
             plan.say(line)
         return 1
 
 
-def hints(fault, plan):
+def tell_modes(plan):
+    """Says of a mount that others may use which images keep no modes."""
+    if "allow_other" in plan.words and not plan.modeless:
+        from strata_mount import modes
+        modes.tell(plan)
+
+
+def hints(fault):
     """What to do about a fault of a mount, where that is known."""
     if fault.filename == DEVICE and fault.errno in (errno.ENOENT, errno.ENODEV, errno.EPERM):
         yield ("FUSE is not available here: `modprobe fuse`, or start the container with "
@@ -259,6 +268,3 @@ def hints(fault, plan):
     if fault.filename == DEVICE and fault.errno == errno.EACCES:
         yield ("this user may not open it, nor may fusermount3 for this user: `chmod 666 /dev/fuse` as "
                "root lets all users mount, as udev does")
-    unknown = Options(",".join(plan.words)).unknown
-    if fault.errno == errno.EINVAL and unknown:
-        yield "-o: unknown: %s" % one_line(", ".join(unknown))

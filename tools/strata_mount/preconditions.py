@@ -2,6 +2,7 @@
 nothing below the folder."""
 import os
 
+from strata_format.refused import one_line
 from strata_format.version import PACKAGES, TOP
 from strata_layers import layer_order
 from strata_mount import dead_mounts
@@ -18,6 +19,9 @@ OPENED = ("/lib64/ld-linux-x86-64.so.2", "/etc/ld.so.preload", "/etc/ld.so.cache
 PULL_AGAIN = "; pull the image again"
 # as many links as the kernel follows on the way to a file
 LINKS_MOST = 40
+# where open files have numbers for names
+NUMBERED = "/proc/", "/dev/"
+NOT_GIVEN = "strata does not inherit the caller's open files; "
 
 
 def hold_here(names):
@@ -122,6 +126,34 @@ def hold_names(plan):
         except UnicodeDecodeError:
             why = "the name is not UTF-8, which strata needs; a link with another name will do"
             raise OSError(0, why, image) from None
+
+
+def hold_by_path(plan):
+    """Looks that no image is named by the number of a file that a process has open: the server doesn't
+    get the caller's, and may not look at those of others."""
+    for image in plan.images:
+        # a way that begins elsewhere ends there only by a link
+        if os.path.abspath(image).startswith(NUMBERED) or os.path.islink(image):
+            open_file = next(filter(is_open_file, way_to(image)), None)
+            if open_file is not None and os.path.lexists(open_file):
+                raise OSError(0, NOT_GIVEN + path_instead(open_file), image)
+
+
+def is_open_file(path):
+    """Whether a path without links is the number of a file that a process has open."""
+    folder, number = os.path.split(path)
+    return number.isdigit() and folder.startswith("/proc/") and os.path.basename(folder) == "fd"
+
+
+def path_instead(open_file):
+    """What to name instead of an open file."""
+    try:
+        path = os.readlink(open_file)
+        if os.path.samefile(path, open_file):
+            return "name %s" % one_line(path)
+    except OSError:
+        pass
+    return "name a file by its path, or a pipe that mkfifo makes"
 
 
 def way_to(path):

@@ -1,12 +1,13 @@
 """Stands between an open /dev/fuse and a server, for `strata-mount --debug` and `--stats`; without these it is not used.
 
-    relay.py [--debug] [--stats NUMBER] [--errors NUMBER] [--pass NUMBER].. [--seal WORDS].. -- PROGRAM WORDS..
+    relay.py [--debug] [--stats NUMBER] [--errors NUMBER] [--pass NUMBER].. [--seal WORDS].. [--shown NAME] -- PROGRAM WORDS..
 
 Standard input is the open /dev/fuse. The program is started with one end of a socket of packets as its standard input and
 output: a read gives it one whole request, a write takes one whole reply, as at /dev/fuse. Each request and each reply is
 printed on standard error (--debug), and counted in the file that is open as NUMBER (--stats), which is written at the
 beginning, at SIGUSR1 and at the end, with what images are sealed by (--seal). The program's own lines go to the file that is
-open as NUMBER (--errors), and it gets descriptors (--pass). The status is the program's.
+open as NUMBER (--errors), and it gets descriptors (--pass). NAME stands for its own in the list of processes (--shown), by
+which --list finds it. The status is the program's.
 """
 import argparse
 import errno
@@ -188,7 +189,9 @@ def serve(asked):
     book.write()
     ours, theirs = map(widened, socket.socketpair(socket.AF_UNIX, socket.SOCK_SEQPACKET))
     with theirs:
-        program = subprocess.Popen(asked.words, stdin=theirs, stdout=theirs, stderr=asked.errors, pass_fds=asked.passed)
+        words = [asked.shown or asked.words[0], *asked.words[1:]]
+        program = subprocess.Popen(words, executable=asked.words[0], stdin=theirs, stdout=theirs, stderr=asked.errors,
+                                   pass_fds=asked.passed)
     # nothing of this process but the device's descriptor holds the mount
     with open(os.devnull, "r+b") as nothing:
         os.dup2(nothing.fileno(), 0)
@@ -211,6 +214,7 @@ def main(words):
     parser.add_argument("--errors", type=int, metavar="NUMBER")
     parser.add_argument("--pass", type=int, metavar="NUMBER", dest="passed", action="append", default=[])
     parser.add_argument("--seal", metavar="WORDS", dest="seals", action="append", default=[])
+    parser.add_argument("--shown", metavar="NAME")
     parser.add_argument("words", nargs="+")
     status = serve(parser.parse_args(words))
     sys.stderr.flush()

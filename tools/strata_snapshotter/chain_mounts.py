@@ -4,6 +4,8 @@ strata-mount makes them, by --share: chains of the same images have one server, 
 else shares these images with the same options. The server is a process of its own, which goes on
 when this one ends. A mount whose server has ended is unmounted and made anew when it is needed
 again.
+
+A mount that nothing lies on any more is kept for some seconds: the next container finds it there.
 """
 import collections
 import contextlib
@@ -11,6 +13,7 @@ import os
 import subprocess
 import sys
 import threading
+import time
 
 from strata_format.version import TOP
 from strata_mount.device import answers, take_away
@@ -57,8 +60,10 @@ def clear(place):
 class ChainMounts:
     """The mounts of a snapshotter, by the number of the highest layer of each."""
 
-    def __init__(self, places, program):
+    def __init__(self, places, program, keep):
         self.places, self.program = places, program
+        # so many seconds a mount is kept that nothing lies on, and since when each is
+        self.keep, self.unused = keep, {}
         self.lock = threading.Lock()
         # who is about to use a mount holds it: until then nothing says that it is used
         self.held, self.locks = collections.Counter(), collections.defaultdict(threading.Lock)
@@ -79,6 +84,7 @@ class ChainMounts:
         place = self.places.mount(layer)
         with self.lock:
             own = self.locks[layer]
+            self.unused.pop(layer, None)
         with own:
             with contextlib.suppress(FileExistsError):
                 os.mkdir(place, 0o700)
@@ -87,15 +93,21 @@ class ChainMounts:
                 mount_chain(self.program, images, digests, place)
         return place
 
-    def release(self, used):
-        """Unmounts the mounts of all layers but those that are used or held. A server whose mount
-        is still part of a container's root goes on until that is gone, too."""
+    def release(self, used, kept):
+        """Unmounts the mounts of all layers but those that are used or held, and those of layers
+        `kept` that have not been unused for long; after how many seconds there is one more to
+        unmount, or None. A server whose mount is still part of a container's root goes on until
+        that is gone, too."""
+        now = time.monotonic()
         with self.lock:
             unused = self.places.numbers("mounts") - used - {*+self.held}
-            owns = [(it, self.locks[it]) for it in unused]
+            self.unused = {it: self.unused.get(it, now) for it in unused}
+            left = {it: self.unused[it] + self.keep - now for it in unused & kept}
+            owns = [(it, self.locks[it]) for it in unused if left.get(it, 0) <= 0]
         for layer, own in owns:
             with own:
                 self.take_away(layer)
+        return min((it for it in left.values() if it > 0), default=None)
 
     def take_away(self, layer):
         place = self.places.mount(layer)

@@ -20,6 +20,9 @@ STORE = "/var/lib/strata"
 CONTENT = "/var/lib/containerd/io.containerd.content.v1.content"
 NAME = "strata-snapshotter"
 GRACE = 2
+KEEP = 10
+# fewer digits has a number of seconds
+DIGITS = 7
 NO_GRPC = "needs grpcio and protobuf of this python3 (Debian: python3-grpcio, python3-protobuf): %s"
 
 
@@ -34,6 +37,13 @@ class Parser(argparse.ArgumentParser):
         sys.exit(2)
 
 
+def seconds(text):
+    """A number of seconds that an option says."""
+    if not (text.isascii() and text.isdigit() and len(text) < DIGITS):
+        raise argparse.ArgumentTypeError("%r is no number of seconds" % text)
+    return int(text)
+
+
 def parser():
     found = Parser(
         prog=NAME, description="Serves snapshots to containerd: its layers as romfs images.",
@@ -46,6 +56,9 @@ def parser():
                        help="the store of strata-layers, whose layers are used as they are (%(default)s)")
     found.add_argument("--content", metavar="DIR", default=CONTENT,
                        help="containerd's content store, for layers that are fetched (%(default)s)")
+    found.add_argument("--keep", metavar="SECONDS", type=seconds, default=KEEP,
+                       help="how long a mount stays that nothing uses (%(default)s); 0 also mounts "
+                            "no image ahead of its first container")
     found.add_argument("--strata", metavar="PROGRAM", dest="program", default=None,
                        help="start PROGRAM instead of the installed strata")
     found.add_argument("--debug", action="store_true", help="log each call with its time")
@@ -71,7 +84,7 @@ def serve(words):
     sockets.clear(path)
     program = os.path.abspath(words.program or version.program())
     ready = ReadyLayers(held, StoreLayers(words.store), Content(words.content), program)
-    snapshots = Snapshots(held, program, ready)
+    snapshots = Snapshots(held, program, ready, words.keep)
     server = service.server_of(snapshots)
     try:
         server.add_insecure_port("unix:" + os.path.abspath(path))

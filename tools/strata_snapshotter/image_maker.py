@@ -1,4 +1,5 @@
-"""Makes images of committed layers, one after another, in a thread of its own.
+"""Makes images of committed layers, one after another, in a thread of its own. Those that a call
+waits for come first.
 
 A layer becomes an image if all below it are images. One that an image doesn't hold, or that is
 above the most layers that strata stacks, stays a folder, and so does all above it; each is logged
@@ -25,6 +26,15 @@ LAYERS_MOST = 128
 LOOKING, AGAIN = 1, 5
 
 
+def below_reason(lower):
+    """Why a layer stays a folder that lies on one."""
+    return "%s below it is a folder" % lower.name
+
+
+def tell_folder(name, why):
+    logging.warning("%s stays a folder, with all above it: %s", name, why)
+
+
 class ImageMaker:
     """What makes images for the snapshots of a root."""
 
@@ -32,34 +42,36 @@ class ImageMaker:
         self.snapshots, self.program = snapshots, program
         self.state, self.places = snapshots.state, snapshots.places
         self.changed = threading.Condition(snapshots.lock)
-        # the number of the layer of which an image is being made
-        self.making = None
+        # the number of the layer of which an image is being made, and of those that calls wait for
+        self.making, self.waited_for = None, []
 
     def start(self):
         threading.Thread(target=self.run, daemon=True).start()
 
     # --- what may be an image ---
 
-    def form_over(self, snapshot):
-        """What the files of a snapshot are in once it is committed. The lock must be held."""
+    def folder_reason(self, snapshot):
+        """Why a snapshot will stay a folder; None where an image may be made of it. The lock must be
+        held."""
         chain = self.state.chain(snapshot)
         lower = next((it for it in chain[1:] if it.form == Form.FOLDER), None)
         if lower is not None:
-            logging.info("%s stays a folder: %s below it is one", snapshot.name, lower.name)
-            return Form.FOLDER
+            return below_reason(lower)
         if len(chain) > LAYERS_MOST:
-            logging.warning("%s stays a folder, with all above it: %d layers, and strata stacks %d",
-                            snapshot.name, len(chain), LAYERS_MOST)
-            return Form.FOLDER
-        return Form.PENDING
+            return "layer %d, and strata stacks %d" % (len(chain), LAYERS_MOST)
+        return None
 
     def wait(self, number, is_wanted=lambda: True):
         """Waits until it is settled for a layer and all below it whether they are images."""
         with self.changed:
-            while any(it.form == Form.PENDING for it in self.chain_of(number)):
-                self.changed.wait(LOOKING)
-                if not is_wanted():
-                    raise Unavailable("nobody waits for it any more")
+            self.waited_for.append(number)
+            try:
+                while any(it.form == Form.PENDING for it in self.chain_of(number)):
+                    self.changed.wait(LOOKING)
+                    if not is_wanted():
+                        raise Unavailable("nobody waits for it any more")
+            finally:
+                self.waited_for.remove(number)
 
     def chain_of(self, number):
         return self.state.chain(self.state.by_id(number))
@@ -85,12 +97,20 @@ class ImageMaker:
     def next(self):
         """Waits for a layer of which an image is to be made."""
         with self.changed:
-            snapshot = self.state.pending()
+            snapshot = self.first()
             while snapshot is None:
                 self.changed.wait()
-                snapshot = self.state.pending()
+                snapshot = self.first()
             self.making = snapshot.id
             return snapshot
+
+    def first(self):
+        """The layer of which an image is to be made first, or None. The lock must be held."""
+        for number in self.waited_for:
+            pending = [it for it in self.chain_of(number) if it.form == Form.PENDING]
+            if pending:
+                return pending[-1]
+        return self.state.pending()
 
     def make(self, snapshot):
         """Makes the image of a layer, and settles what its files are in."""
@@ -101,14 +121,16 @@ class ImageMaker:
                 self.settle(snapshot, lambda: self.replace(snapshot, path, digest))
         except (Refused, OSError, MemoryError) as fault:
             # what was begun is gone by now, and leaves its room on a full disk
-            why, taken = str(fault), places.usage(self.places.files(snapshot.id))
+            why = str(fault).encode(errors="replace").decode()
+            taken = places.usage(self.places.files(snapshot.id))
             self.settle(snapshot, lambda: self.stay(snapshot, why, taken))
 
     def write(self, snapshot, file):
         with self.snapshots.lock:
             chain = self.chain_of(snapshot.id)
-        if any(it.form != Form.IMAGE for it in chain[1:]):
-            raise Refused("a layer below it is a folder")
+        for it in chain[1:]:
+            if it.form != Form.IMAGE:
+                raise Refused(below_reason(it))
         write_folder_image(self.places.files(snapshot.id), file)
         os.fsync(file.fileno())
 
@@ -127,9 +149,9 @@ class ImageMaker:
     def stay(self, snapshot, why, taken):
         """Lets a layer that is no image yet stay a folder."""
         places.remove(self.places.image(snapshot.id))
-        logging.warning("%s stays a folder, with all above it: %s", snapshot.name, why)
+        tell_folder(snapshot.name, why)
         with self.state.transaction():
-            self.state.settle(snapshot.id, Form.FOLDER, taken)
+            self.state.settle(snapshot.id, Form.FOLDER, taken, why=why)
 
     def replace(self, snapshot, path, digest):
         """Puts an image into the place of a layer's folder, which is removed once nothing lies on
@@ -139,6 +161,7 @@ class ImageMaker:
             self.state.settle(snapshot.id, Form.IMAGE,
                               places.usage(self.places.image(snapshot.id)), digest)
         self.snapshots.spare.add(snapshot.id)
+        self.snapshots.mount_ahead(snapshot.id)
 
     # --- layers that are given as images ---
 
@@ -177,3 +200,4 @@ class ImageMaker:
             self.state.settle(snapshot.id, Form.IMAGE,
                               places.usage(self.places.image(snapshot.id)), digest)
         self.snapshots.spare.add(snapshot.id)
+        self.snapshots.mount_ahead(snapshot.id)

@@ -10,6 +10,7 @@ import grpc
 from strata_format.refused import Refused
 from strata_snapshotter import faults
 from strata_snapshotter.messages import API, CALLS, SERVICE
+from strata_snapshotter.snapshots import labels_of
 from strata_snapshotter.state import Kind
 
 STATUSES = {
@@ -29,7 +30,7 @@ SECOND = 10 ** 9
 def info_of(snapshot):
     """A snapshot as the service describes it."""
     info = API.Info(name=snapshot.name, parent=snapshot.parent_name, kind=int(snapshot.kind),
-                    labels=snapshot.labels)
+                    labels=labels_of(snapshot))
     for at, when in ((info.created_at, snapshot.created), (info.updated_at, snapshot.updated)):
         at.seconds, at.nanos = divmod(when, SECOND)
     return info

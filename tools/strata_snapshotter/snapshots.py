@@ -12,15 +12,16 @@ import collections
 import contextlib
 import logging
 import os
+import sqlite3
 import threading
 
 from strata_snapshotter import places
 from strata_snapshotter.chain_mounts import ChainMounts
 from strata_snapshotter.faults import (
-    AlreadyExists, FailedPrecondition, InvalidArgument, NotFound)
+    AlreadyExists, FailedPrecondition, Fault, InvalidArgument, NotFound)
 from strata_snapshotter.filters import any_of
 from strata_snapshotter.given_image import given_image
-from strata_snapshotter.image_maker import LAYERS_MOST, ImageMaker
+from strata_snapshotter.image_maker import LAYERS_MOST, ImageMaker, tell_folder
 from strata_snapshotter.ready_layers import REFERENCE
 from strata_snapshotter.state import Form, Kind, Lower, State
 
@@ -29,6 +30,11 @@ Mount = collections.namedtuple("Mount", "type source options")
 # the names of snapshots into which layers are unpacked begin so, behind containerd's own front
 UNPACKED = "extract-"
 LABEL_PATH = "labels."
+# so many seconds after a layer was made an image it is mounted, if none has come over it
+AHEAD = 0.05
+# the label that tells why a layer stays a folder, and the most characters of it: containerd's own
+# labels have at most 4,096 bytes
+FOLDER, WHY_MOST = "strata/folder", 1000
 OVERLAY_INDEX = "/sys/module/overlay/parameters/index"
 
 
@@ -36,21 +42,49 @@ def is_unpacked_to(name):
     return name.rpartition("/")[2].startswith(UNPACKED)
 
 
+def labels_of(snapshot):
+    """The labels of a snapshot, among them why it stays a folder."""
+    if snapshot.why is None:
+        return snapshot.labels
+    return {**snapshot.labels, FOLDER: snapshot.why[:WHY_MOST]}
+
+
 def field_of(snapshot, path):
     """The value of a field for filters, or None where it isn't present."""
     if path[0] == "labels":
-        return snapshot.labels.get(".".join(path[1:]))
+        return labels_of(snapshot).get(".".join(path[1:]))
     fields = {"name": snapshot.name, "parent": snapshot.parent_name,
               "kind": snapshot.kind.name.lower()}
     return fields.get(path[0])
 
 
+def begin_after(seconds, function, *words):
+    """Calls a function in a thread of its own after so many seconds."""
+    timer = threading.Timer(seconds, function, words)
+    timer.daemon = True
+    timer.start()
+
+
+@contextlib.contextmanager
+def told_as_warning(what, *kinds):
+    """Logs faults of what nobody waits for, which ends with them: those of these kinds, or all that
+    calls have."""
+    try:
+        yield
+    except kinds or (Fault, OSError, sqlite3.Error) as fault:
+        logging.warning("%s: %s", what, fault)
+
+
 class Snapshots:
     """All snapshots of a root; every call may come from any thread."""
 
-    def __init__(self, held, program, ready):
+    def __init__(self, held, program, ready, keep):
         self.places, self.ready, self.state = held, ready, State(held.at("state.db"))
-        self.mounts_of = ChainMounts(held, program)
+        self.mounts_of = ChainMounts(held, program, keep)
+        # held while a layer is mounted ahead
+        self.ahead = threading.Lock()
+        # whether it will be tidied once more, since a mount is kept until then
+        self.is_due = False
         # over the state, and over folders as the state has them
         self.lock = threading.RLock()
         # layers that are images, and whose folders are there still
@@ -61,8 +95,10 @@ class Snapshots:
         self.maker.start()
 
     def close(self):
-        """Ends the use of the state, so that it stands in one file."""
-        with self.lock:
+        """Unmounts what is only kept, and ends the use of the state, so that it stands in one
+        file."""
+        with self.ahead, self.lock:
+            self.mounts_of.release(self.state.used(True), set())
             self.state.close()
 
     # --- what is there ---
@@ -194,7 +230,29 @@ class Snapshots:
                     self.places.keep_image(path, number)
                     self.state.settle(number, Form.IMAGE,
                                       places.usage(self.places.image(number)), digest)
+                    self.mount_ahead(number)
         return True
+
+    # --- ahead of the first container ---
+
+    def mount_ahead(self, number):
+        """Begins to mount a layer that is an image now with all below it, unless another one comes
+        over it: a container will lie on it soon, or it is unmounted as one that nothing lies on."""
+        if self.mounts_of.keep > 0:
+            begin_after(AHEAD, self.mount_unused, number)
+
+    def mount_unused(self, number):
+        with self.ahead, told_as_warning("layer %d is not mounted ahead" % number):
+            try:
+                with self.mounts_of.holding([number]):
+                    with self.lock:
+                        snapshot = self.state.by_id(number)
+                        is_top = snapshot is not None and not self.state.has_children(snapshot)
+                    if is_top:
+                        self.folder_of(Lower(number, True))
+            finally:
+                # the layer may have been removed meanwhile
+                self.tidy()
 
     # --- Mounts ---
 
@@ -249,11 +307,14 @@ class Snapshots:
         """Commits a snapshot as the folder that it is, of which an image may be made."""
         with self.lock:
             snapshot = self.committable(name, key)
-            form = self.maker.form_over(snapshot)
-            taken = (0, 0) if form == Form.PENDING else places.usage(self.places.files(snapshot.id))
+            why = self.maker.folder_reason(snapshot)
+            form, taken = Form.PENDING, (0, 0)
+            if why is not None:
+                form, taken = Form.FOLDER, places.usage(self.places.files(snapshot.id))
+                tell_folder(name, why)
             with self.state.transaction():
                 self.state.commit(snapshot, name, labels, form)
-                self.state.settle(snapshot.id, form, taken)
+                self.state.settle(snapshot.id, form, taken, why=why)
         self.maker.notice()
 
     def update(self, name, labels, paths):
@@ -294,18 +355,30 @@ class Snapshots:
         """Unmounts the mounts that nothing lies on, and removes the folders of images. What
         can't be removed now is logged, and found at the next start: what was asked for is
         done."""
-        try:
+        aside = []
+        with told_as_warning("what is not needed stays for now", OSError):
             with self.lock:
-                self.mounts_of.release(self.state.used(True))
-                found = (self.spare & self.state.numbers()) - self.state.used(False)
+                numbers = self.state.numbers()
+                self.tidy_after(self.mounts_of.release(self.state.used(True), numbers))
+                found = (self.spare & numbers) - self.state.used(False)
                 self.spare -= found
                 aside = [self.places.set_aside(path) for number in found
                          for path in (self.places.files(number), self.places.work(number))]
-        except OSError as fault:
-            logging.warning("what is not needed stays for now: %s", fault)
-        else:
-            for path in aside:
-                places.remove(path)
+        for path in aside:
+            places.remove(path)
+
+    def tidy_after(self, seconds):
+        """Sees that it is tidied again after so many seconds, or not if that is None. The lock must
+        be held."""
+        if seconds is not None and not self.is_due:
+            self.is_due = True
+            begin_after(seconds, self.tidy_again)
+
+    def tidy_again(self):
+        with self.lock:
+            self.is_due = False
+        with told_as_warning("what is not needed stays for now"):
+            self.tidy()
 
     def cleanup(self):
         """Removes all that no snapshot needs, as a snapshotter that was killed has left it."""

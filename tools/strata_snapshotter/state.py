@@ -34,9 +34,15 @@ SEALS = """
 CREATE TABLE IF NOT EXISTS seals(
   snapshot INTEGER PRIMARY KEY REFERENCES snapshots(id) ON DELETE CASCADE, digest TEXT NOT NULL)
 """
+# why layers stay folders; not known of those that an older snapshotter has left as they are
+REASONS = """
+CREATE TABLE IF NOT EXISTS reasons(
+  snapshot INTEGER PRIMARY KEY REFERENCES snapshots(id) ON DELETE CASCADE, why TEXT NOT NULL)
+"""
 COLUMNS = "s.id, s.name, s.parent, p.name, s.kind, s.form, s.labels, s.created, s.updated, " \
-          "s.size, s.inodes"
-FOUND = "SELECT %s FROM snapshots s LEFT JOIN snapshots p ON p.id = s.parent " % COLUMNS
+          "s.size, s.inodes, r.why"
+FOUND = "SELECT %s FROM snapshots s LEFT JOIN snapshots p ON p.id = s.parent " \
+        "LEFT JOIN reasons r ON r.snapshot = s.id " % COLUMNS
 
 
 class Kind(enum.IntEnum):
@@ -58,9 +64,9 @@ class Form(enum.Enum):
 
 # parent: the number of the snapshot that this one lies on, or None; parent_name: its name, or "".
 # Times are nanoseconds since 1970; size (bytes) and inodes are those of a folder that stays or of
-# an image.
+# an image; why: why a layer stays a folder, or None.
 Snapshot = collections.namedtuple("Snapshot", "id name parent parent_name kind form labels created "
-                                  "updated size inodes")
+                                  "updated size inodes why")
 # a folder that an overlay lies on: that of a layer, or the mount of a layer with all below it
 Lower = collections.namedtuple("Lower", "layer is_mount")
 
@@ -95,6 +101,7 @@ class State:
         elif version != VERSION:
             raise sqlite3.DatabaseError("has version %d instead of %d" % (version, VERSION))
         self.base.execute(SEALS)
+        self.base.execute(REASONS)
 
     def close(self):
         self.base.close()
@@ -202,13 +209,15 @@ class State:
             "updated = ? WHERE id = ?",
             (name, Kind.COMMITTED, form.value, json.dumps(labels), now, now, snapshot.id))
 
-    def settle(self, number, form, usage, digest=None):
-        """Says what the files of a committed snapshot are in from now on, what they take, and the
-        fs-verity digest of an image."""
+    def settle(self, number, form, usage, digest=None, why=None):
+        """Says what the files of a committed snapshot are in from now on, what they take, the
+        fs-verity digest of an image, and why they stay in a folder."""
         self.base.execute("UPDATE snapshots SET form = ?, size = ?, inodes = ? WHERE id = ?",
                           (form.value, *usage, number))
         if digest is not None:
             self.base.execute("INSERT OR REPLACE INTO seals VALUES(?, ?)", (number, digest))
+        if why is not None:
+            self.base.execute("INSERT OR REPLACE INTO reasons VALUES(?, ?)", (number, why))
 
     def set_labels(self, snapshot, labels):
         self.base.execute("UPDATE snapshots SET labels = ?, updated = ? WHERE id = ?",

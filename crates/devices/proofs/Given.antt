@@ -1,5 +1,5 @@
--- What a source may give piece by piece, each behind what it gave so far, it may give in all (given_more). What is held lacks nothing
--- before its end (held_lacks); a read of it gives what may be given (reads_held). Nothing may be given by any source (gives_none).
+-- What a source may give piece by piece, each after what it gave so far, it may give at once (given_more). Held bytes lack nothing
+-- before their end (held_lacks); a read of them gives what may be given (reads_held). Any source may give no bytes (gives_none).
 use Rattle.std.proofs.Common.{◌≡◌, ◌∙◌, sym, ap, subst, ℕ, ◌+◌, ◌<◌, ◌≤◌, List, [], ◌++◌, length, take, drop, Ok, inl, inr, refl, arith, length-append, length-take-le}
 use Rattle.std.proofs.lemmas.List.{drop-drop}
 use borrow.Rule.Slice.PartMut.{put_mid}
@@ -30,7 +30,7 @@ given_more source offset done n k room part d l a b =
     (given_on source offset (take done room) (take n part) a
     (subst (λ i. MayGive source (offset + i) (take n part)) (sym (length-take-le done room d)) b))
 
--- no bytes are what any source may give
+-- any source may give no bytes
 pub gives_none : (source : Source) (place : ℕ) → MayGive source place []
 gives_none (file anything) place = tt
 gives_none (file (these bytes)) place = refl

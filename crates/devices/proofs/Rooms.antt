@@ -1,9 +1,9 @@
--- A room that is filled piece by piece, each behind what was filled so far (put_front).
+-- A room that is filled piece by piece, each after what was filled so far (put_front).
 use Rattle.std.proofs.Common.{◌≡◌, ◌∙◌, sym, ap, ℕ, ◌+◌, ◌≤◌, List, ◌++◌, length, take, drop, refl, arith, take-append-drop, length-take-le}
 use Rattle.std.proofs.lemmas.List.{take_at, drop_at, take-take, drop-take, take-append-le}
 use borrow.Rule.Slice.PartMut.{put_mid, post_of}
 
--- a front, and what comes behind it
+-- a front, and what comes after it
 pub take_add : (n m : ℕ) (xs : List ℕ) → take (n + m) xs ≡ take n xs ++ take m (drop n xs)
 take_add n m xs =
     sym (take-append-drop n (take (n + m) xs))

@@ -22,7 +22,7 @@ no_pulls = record { pulls = 0; ends = 0; failures = 0; last = None }
 abbrev pub no_pushes : Pushes
 no_pushes = record { flushes = 0; failures = 0; unflushed = 0 }
 
--- the counts of a source after a pull: no byte into a room is the end
+-- the counts of a source after a pull: one that gives no byte met the end
 abbrev pub pulled : Pulls → Result ℕ Failed → Pulls
 pulled p (Ok n) = record {
   pulls = up p.pulls;
@@ -33,12 +33,12 @@ pulled p (Ok n) = record {
 pulled p (Err e) =
     record { pulls = up p.pulls; ends = p.ends; failures = up p.failures; last = Some Failure }
 
--- the failures of a sink that took n of these many bytes: taking none of some is one
+-- the failures of a sink that took n of this many bytes: taking none of some is a failure
 abbrev pub failures_after : ℕ → ℕ → ℕ → ℕ
 failures_after failures size n =
     if n == 0 then (if size == 0 then failures else up failures) else failures
 
--- the counts of a sink after a push of these many bytes
+-- the counts of a sink after a push of this many bytes
 abbrev pub pushed : Pushes → ℕ → Result ℕ Failed → Pushes
 pushed p size (Ok n) = record {
   flushes = p.flushes;
@@ -54,11 +54,11 @@ flushed p (Ok u) = record { flushes = up p.flushes; failures = p.failures; unflu
 flushed p (Err e) =
     record { flushes = up p.flushes; failures = up p.failures; unflushed = p.unflushed }
 
--- the counts of what gave no client so far
+-- the counts before the first accept
 abbrev pub no_accepts : Accepts
 no_accepts = record { clients = 0; failures = 0 }
 
--- the counts of what gives clients after an accept
+-- the counts after one more accept
 abbrev pub accepted : {X : Type 0} → Accepts → Result X Failed → Accepts
 accepted a (Ok client) = record { clients = up a.clients; failures = a.failures }
 accepted a (Err e) = record { clients = a.clients; failures = up a.failures }

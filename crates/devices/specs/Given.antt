@@ -1,4 +1,4 @@
--- pread(2): what reads of a file may give.
+-- pread(2): what reads from a file may give.
 use Rattle.std.specs.Prelude.{◌≡◌, ◌+◌, ◌<◌, ℕ, List, length, take, drop, ⊤}
 
 -- anything; or these bytes alone, and no read fails

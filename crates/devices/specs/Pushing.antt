@@ -5,15 +5,15 @@ use Rattle.devices.specs.declared.failed.Failed.{Failed}
 use Rattle.devices.specs.declared.counts.Pushes.{Pushes}
 use Rattle.devices.specs.States.{SinkState}
 
--- what is held, if that is known, grew by a beginning of some bytes, and by nothing else
+-- the bytes held, if they are known, grew by the first of some bytes, and by nothing else
 pub record GainsFront (bytes : List ℕ) (old new : Option (List ℕ)) : Type 0 where
   pub put : List ℕ
   pub more : List ℕ
   pub front : bytes ≡ put ++ more
   pub gained : Appends old new put
 
--- the first of some bytes, put, went to a sink; no byte but these is newly unflushed, and there was
--- one flush at most
+-- the bytes put, which are the first of some bytes, went to a sink; no byte but these is newly
+-- unflushed, and there was one flush at most
 pub record PutsFront (bytes put : List ℕ) (old new : SinkState) : Type 0 where
   pub more : List ℕ
   pub front : bytes ≡ put ++ more
@@ -49,8 +49,8 @@ abbrev pub HandsOn : List ℕ → SinkState → SinkState → Result (Unit {0}) 
 HandsOn bytes old new result =
     (put : List ℕ) × PutsFront bytes put old new × IsHandedOn bytes put old.counts new.counts result
 
--- a call counts its failure: if it succeeds no more, and no more bytes wait for a flush; if it
--- fails one more
+-- a call counts its failure: if it succeeds, there is no new failure, and no more bytes wait for a
+-- flush; if it fails, there is one more
 abbrev pub Settles : {X E : Type 0} → Result X E → SinkState → SinkState → Type 0
 Settles (Ok x) old new =
     (new.counts.failures ≡ old.counts.failures) × (new.counts.unflushed ≤ old.counts.unflushed)

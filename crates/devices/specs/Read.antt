@@ -1,5 +1,5 @@
--- What reads under a digest give: no premise is on the hash alone, but on those bytes that reads
--- may give.
+-- What reads under a digest give. There is no premise on the hash alone, but on the bytes that
+-- reads may give.
 use Rattle.std.specs.Prelude.{◌≡◌, ◌≢◌, ℕ, ◌+◌, ◌*◌, ◌<◌, List, length, slice_index}
 use Rattle.devices.specs.Given.{Given, Allows}
 use Rattle.devices.specs.Tree.{Hash, AreBytes, HasLevels, block, blocks_above, above}
@@ -7,14 +7,15 @@ use Rattle.devices.specs.File.{blocks_of, filled, in_blocks, IsFileDigest}
 use Rattle.devices.specs.Vouched.{VouchesAt}
 use Rattle.devices.specs.Seal.{Seal, lowest_place, kept_of, MayBeKept, IsTop}
 
--- no read of the source at this place gives other bytes, as many, that have these bytes' digest
+-- no read of the source at this place gives different bytes, of the same number, with the digest of
+-- these bytes
 pub record IsAloneAt (source : Given) (place : ℕ) (h : Hash) (b : List ℕ) : Type 0 where
   pub alone : (c : List ℕ) → AreBytes c → length c ≡ length b → Allows source place c
       → h (filled c) ≡ h (filled b) → c ≡ b
 
--- the digest is that of a file of these bytes. And what reads may give of the upper levels makes,
--- with the size that was told, no other descriptor with that digest; and no read gives, in the
--- place of a block or of one of the lowest hash blocks, another with its digest
+-- the digest is that of a file of these bytes. What reads may give of the upper levels makes, with
+-- the reported size, no other descriptor with that digest. No read gives, instead of a block or of
+-- one of the lowest hash blocks, another with the same digest
 pub record IsUnmatched (s : Seal) (xs : List ℕ) : Type 0 where
   pub of : IsFileDigest s.algorithm s.hash xs s.digest
   pub top : (levels : ℕ) (kept : List ℕ) → HasLevels s.algorithm (blocks_of s.size) levels
@@ -27,8 +28,7 @@ pub record IsUnmatched (s : Seal) (xs : List ℕ) : Type 0 where
       (lowest_place s.algorithm of.levels (blocks_of (length xs)) + 4096 * i) s.hash
       (block (above s.algorithm s.hash (in_blocks xs) (blocks_of (length xs))) i)
 
--- the byte at a place is one for which the digest vouches, and that of the bytes whose digest it is
--- and which are unmatched
+-- the digest vouches for the byte at a place, and it is that of any unmatched bytes with the digest
 pub record IsReadAt (s : Seal) (place byte : ℕ) : Type 0 where
   pub vouched : VouchesAt s.algorithm s.hash s.size s.digest place byte
   pub right : (xs : List ℕ) → IsUnmatched s xs → (place < length xs) × (byte ≡ slice_index xs place)

@@ -1,4 +1,4 @@
--- What is read under a digest, and where the tree's levels stand in its file: as `fsverity digest
+-- What is read under a digest, and where the tree's levels are in its file: as `fsverity digest
 -- --out-merkle-tree` writes them.
 use Rattle.std.specs.Prelude.{◌≡◌, ℕ, zero, suc, ◌*◌, List, length, replicate}
 use Rattle.devices.specs.Given.{Given, Allows}
@@ -6,7 +6,7 @@ use Rattle.devices.specs.declared.algorithm.Algorithm.{Algorithm}
 use Rattle.devices.specs.Tree.{Hash, AreBytes, digest_size, blocks_above, above, root, root_hash, tree_blocks}
 use Rattle.devices.specs.File.{blocks_of, filled, descriptor}
 
--- what reads of the file and of the file of its tree may give; how it is hashed; its size and
+-- what reads from the file and from the file of its tree may give; how it is hashed; its size and
 -- digest
 pub record Seal : Type 0 where
   pub image : Given
@@ -16,7 +16,7 @@ pub record Seal : Type 0 where
   pub size : ℕ
   pub digest : List ℕ
 
--- where the lowest hash blocks stand, behind the levels above them
+-- where the lowest hash blocks begin: after the levels above them
 abbrev pub lowest_place : Algorithm → ℕ → ℕ → ℕ
 lowest_place a zero n = 0
 lowest_place a (suc levels) n = 4096 * tree_blocks a levels (blocks_above a n)

@@ -13,11 +13,11 @@ pub record SinkState : Type 0 where
   pub held : Option (List ℕ)
   pub counts : Pushes
 
--- the state of a source, of its bytes and its counts
+-- the state of a source, from its bytes and its counts
 abbrev pub source_state : Option (List ℕ) → Pulls → SourceState
 source_state left counts = record { left = left; counts = counts }
 
--- the state of a sink, of its bytes and its counts
+-- the state of a sink, from its bytes and its counts
 abbrev pub sink_state : Option (List ℕ) → Pushes → SinkState
 sink_state held counts = record { held = held; counts = counts }
 
@@ -26,6 +26,6 @@ pub record Devices : Type 0 where
   pub source : SourceState
   pub sink : SinkState
 
--- a source and a sink, of these two states
+-- a source and a sink, in these two states
 abbrev pub devices : SourceState → SinkState → Devices
 devices source sink = record { source = source; sink = sink }

@@ -4,7 +4,7 @@ use Rattle.std.specs.Prelude.{◌≡◌, ℕ, zero, suc, ◌+◌, ◌-◌, ◌*�
 use Rattle.devices.specs.declared.algorithm.Algorithm.{Algorithm}
 use Rattle.devices.specs.declared.algorithm.Algorithm.TheVariants.{Sha256, Sha512}
 
--- what a block's digest is
+-- a hash: the digest of each block
 abbrev pub Hash : Type 0
 Hash = List ℕ → List ℕ
 
@@ -44,7 +44,7 @@ block xs i = take 4096 (drop (4096 * i) xs)
 unfoldable pub digest_at : Algorithm → List ℕ → ℕ → List ℕ
 digest_at a xs i = take (digest_size a) (drop (digest_size a * i) xs)
 
--- the digests of the first n blocks, one behind the other
+-- the digests of the first n blocks, one after the other
 unfoldable pub digests : Hash → List ℕ → ℕ → List ℕ
 digests h xs zero = []
 digests h xs (suc n) = digests h xs n ++ h (block xs n)
@@ -68,7 +68,7 @@ unfoldable pub root : Algorithm → Hash → ℕ → List ℕ → ℕ → List �
 root a h zero xs n = h xs
 root a h (suc levels) xs n = root a h levels (above a h xs n) (blocks_above a n)
 
--- the root hash; where there is no block, zeros
+-- the root hash; zeros if there is no block
 unfoldable pub root_hash : Algorithm → Hash → ℕ → List ℕ → ℕ → List ℕ
 root_hash a h levels xs zero = replicate (digest_size a) 0
 root_hash a h levels xs (suc n) = root a h levels xs (suc n)
@@ -78,7 +78,7 @@ unfoldable pub tree : Algorithm → Hash → ℕ → List ℕ → ℕ → List �
 tree a h zero xs n = []
 tree a h (suc levels) xs n = tree a h levels (above a h xs n) (blocks_above a n) ++ above a h xs n
 
--- how many blocks these levels are
+-- how many blocks these levels have
 unfoldable pub tree_blocks : Algorithm → ℕ → ℕ → ℕ
 tree_blocks a zero n = 0
 tree_blocks a (suc levels) n = tree_blocks a levels (blocks_above a n) + blocks_above a n

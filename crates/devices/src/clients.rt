@@ -1,4 +1,4 @@
-//! What gives clients, one after another.
+//! Sources of clients.
 
 ghost use Rattle.std.specs.Prelude.{◌≡◌};
 ghost use Rattle.devices.specs.Counting.{no_accepts, accepted};
@@ -7,7 +7,7 @@ use crate::counts::Accepts;
 use crate::failed::Failed;
 use std::os::unix::net::{UnixListener, UnixStream};
 
-/// What gives clients. A contract sees how many it gave, and how often none could be accepted.
+/// A source of clients. A contract sees how many it gave, and how often none could be accepted.
 pub trait Clients {
     ghost use Rattle.devices.specs.declared.counts.Accepts.{Accepts};
 

@@ -7,9 +7,9 @@ ghost use Rattle.devices.specs.Sources.{Source, Gives, IsSizeOf};
 #[derive(Debug, Clone, Copy, PartialEq, Eq)]
 pub struct Unread;
 
-/// The bytes of an image. A contract sees what is known of them: those in memory; of those under a
-/// digest what it vouches for; of those of a file nothing. What is known, and what reads may give
-/// or fail, are cases of one `Source`.
+/// The bytes of an image. A contract sees what is known of them: all bytes in memory, those that a
+/// digest vouches for, nothing of a file. What is known, what reads may give, and whether they may
+/// fail are cases of one `Source`.
 pub trait Contents {
     ghost source: { Self → Source };
 
@@ -17,8 +17,8 @@ pub trait Contents {
     fn size(&self) -> u64
         ensures size { IsSizeOf (source self.now) result };
 
-    /// Puts bytes from an offset on at the front of the room, and says how many, as pread(2) does:
-    /// none only at the end, or if the room is empty. A read of bytes in memory never fails. The
+    /// Puts bytes from an offset on at the front of the room, and returns how many, as pread(2)
+    /// does: 0 only at the end, or if the room is empty. A read of bytes in memory never fails. The
     /// rest of the room is unspecified.
     fn read_at(&self, room: &mut [u8], offset: u64) -> Result<usize, Unread>
         ensures bound { IfOk result (λ count. count ≤ length room.new) }

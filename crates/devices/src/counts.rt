@@ -1,4 +1,4 @@
-//! The counts that devices keep. A count that has come to 2^64 - 1 stays there.
+//! The counts that devices keep. A count that reaches 2^64 - 1 stays there.
 
 ghost use Rattle.std.specs.Prelude.{◌≡◌, ◌≤◌, length, IfOk};
 ghost use Rattle.std.specs.Io.KnownBytes.{Keeps, WriteAppends};
@@ -7,7 +7,7 @@ ghost use Rattle.devices.specs.Counting.{no_pulls, no_pushes, no_accepts, pulled
 use crate::failed::Failed;
 use std::io::Write;
 
-/// What a pull was.
+/// The outcome of a pull.
 #[derive(Clone, Copy)]
 pub enum LastPull {
     /// It gave this many bytes, at least one.
@@ -25,7 +25,7 @@ pub struct Pulls {
     pub pulls: u64,
     /// How often a pull met the end.
     pub ends: u64,
-    /// How often a pull failed.
+    /// The outcome of the last pull; `None` before the first.
     pub failures: u64,
     /// What the last pull was. There is none before the first.
     pub last: Option<LastPull>,
@@ -42,7 +42,7 @@ pub struct Pushes {
     pub unflushed: u64,
 }
 
-/// The counts of what gives clients.
+/// The counts of accepts.
 #[derive(Clone, Copy)]
 pub struct Accepts {
     /// How many clients it gave.
@@ -151,7 +151,7 @@ impl Pushes {
 }
 
 impl Accepts {
-    /// The counts of what gave no client.
+    /// The counts before the first accept.
     pub fn none() -> Accepts
         ensures { result ≡ no_accepts }
     {

@@ -1,4 +1,4 @@
-//! Rooms that are filled by as many reads as it takes.
+//! Filling a room by as many reads as it takes.
 
 ghost use Rattle.std.specs.Prelude.{◌+◌, ◌<◌, ◌^◌, length};
 ghost use Rattle.devices.specs.Sources.{GivesAll};
@@ -6,7 +6,7 @@ ghost use Rattle.devices.specs.Sources.{GivesAll};
 use crate::contents::{Contents, Unread};
 
 /// Fills the room with the bytes from an offset on. `Unread` if a read failed, or if the bytes end
-/// earlier; the room is unspecified then. For bytes in memory only if there are too few.
+/// earlier; the room is then unspecified. Bytes in memory are `Unread` only if there are too few.
 ///
 /// It reads once for each portion of bytes, and once more if they end earlier.
 pub fn fill<S: Contents>(source: &S, room: &mut [u8], offset: u64) -> Result<(), Unread>

@@ -4,7 +4,7 @@ use crate::contents::{Contents, Unread};
 use std::io::ErrorKind;
 use std::os::unix::fs::FileExt;
 
-/// How often a read that is interrupted is tried.
+/// How often an interrupted read is tried.
 const TRIES: u32 = 1024;
 
 /// A file that can be read at a place (pread(2)), with the size that it reported when it was
@@ -16,7 +16,7 @@ pub struct InFile<F> {
 }
 
 impl<F: FileExt + Drop> InFile<F> {
-    /// What is read is this file, of this many bytes. Nothing is read yet.
+    /// The bytes of this file, this many. Nothing is read yet.
     pub fn new(file: F, size: u64) -> InFile<F> {
         InFile { file, size }
     }
@@ -32,7 +32,7 @@ impl<F: FileExt> Contents for InFile<F> {
         self.size
     }
 
-    /// A read that is interrupted (EINTR) is made again, 1,024 times at most.
+    /// An interrupted read (EINTR) is made again, 1,024 times at most.
     fn read_at(&self, room: &mut [u8], offset: u64) -> Result<usize, Unread> {
         for _ in 0..TRIES {
             match self.file.read_at(room, offset) {

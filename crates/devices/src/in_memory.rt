@@ -12,7 +12,7 @@ pub struct InMemory<'a> {
 }
 
 impl<'a> InMemory<'a> {
-    /// What is read are these bytes.
+    /// These bytes.
     pub fn new(bytes: &'a [u8]) -> InMemory<'a>
         ensures { ⟦<InMemory<'a> as Contents>⟧.source result ≡ held bytes.now }
     {

@@ -3,7 +3,7 @@
 ghost use Rattle.std.specs.Prelude.{◌≡◌, ℕ, List, length, take, drop};
 ghost use Rattle.devices.specs.Sources.{Source, MayGive, Shows, held};
 
-/// Of bytes that are held reads give just these, from the place on at which they begin.
+/// Reads of held bytes give exactly these, from the place at which the read begins.
 #[tactic(auto, using(crate::proofs::Held::held_may))]
 pub fn held_bytes_are_given()
     ensures only { (xs ys : List ℕ) (place : ℕ) →
@@ -12,7 +12,7 @@ pub fn held_bytes_are_given()
         MayGive (held xs) place (take n (drop place xs)) }
 {}
 
-/// What reads give are the bytes that are shown, whichever these are.
+/// Reads give the bytes that are shown, whichever these are.
 #[tactic(auto, using(crate::proofs::Shown::shown_given))]
 pub fn shown_bytes_are_given()
     ensures { (source : Source) (xs ys : List ℕ) (place : ℕ) → Shows source xs →

@@ -1,4 +1,4 @@
-//! The limits of what is pulled from a source, each said once: code reads the constants, and
+//! The limits of what is pulled from a source, each defined once: code reads the constants, and
 //! definitions, clauses and proofs name the same ones. Both are this project's.
 
 /// The most bytes of one pull from a source: 64 KiB.

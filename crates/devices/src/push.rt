@@ -6,11 +6,10 @@ ghost use Rattle.devices.specs.Pushing.{PushesAll, HandsOn};
 use crate::failed::Failed;
 use crate::sink::Sink;
 
-/// Pushes all of the bytes, whatever number of them each push takes, and then flushes once, if
-/// there were any.
+/// Pushes all of the bytes, however many each push takes, and then flushes once, if there were any.
 ///
 /// `Failed` if a push or the flush failed, or a push took none of some bytes. The sink has then
-/// taken a beginning of the bytes, once, and is not called again.
+/// taken a prefix of the bytes, once, and is not called again.
 pub fn hand_on<K: Sink>(sink: &mut K, bytes: &[u8]) -> Result<(), Failed>
     requires { (K.state sink.old).counts.failures < 2 ^ 63 }
     ensures { HandsOn bytes.now (K.state sink.old) (K.state sink.new) result }

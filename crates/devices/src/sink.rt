@@ -9,19 +9,19 @@ use crate::counts::Pushes;
 use crate::failed::Failed;
 use std::io::Write;
 
-/// What takes bytes. A contract sees the bytes that it holds, and its counts.
+/// A sink takes bytes. A contract sees the bytes that it holds, and its counts.
 pub trait Sink {
     ghost state: { Self → SinkState };
 
-    /// Takes the first of the bytes, and says how many. A push that failed took none. Each failure
-    /// is counted.
+    /// Takes the first of the bytes, and returns how many. A push that failed took none. Each
+    /// failure is counted.
     fn push(&mut self, bytes: &[u8]) -> Result<usize, Failed>
         ensures bound { IfOk result (λ n. n ≤ length bytes.now) }
         ensures bytes { WriteAppends (state self.old).held (state self.new).held result bytes.now }
         ensures counts { (state self.new).counts
             ≡ pushed (state self.old).counts (length bytes.now) result };
 
-    /// Hands on what was taken. Each flush and each failure is counted.
+    /// Passes on what was taken. Each flush and each failure is counted.
     fn flush(&mut self) -> Result<(), Failed>
         ensures bytes { Keeps (state self.old).held (state self.new).held }
         ensures counts { (state self.new).counts ≡ flushed (state self.old).counts result };

@@ -9,12 +9,12 @@ use crate::counts::Pulls;
 use crate::failed::Failed;
 use std::io::Read;
 
-/// What gives bytes. A contract sees the bytes that it has left, and its counts.
+/// A source gives bytes. A contract sees the bytes that it has left, and its counts.
 pub trait Source {
     ghost state: { Self → SourceState };
 
-    /// Puts the next bytes at the front of the room, which is not empty, and says how many: none at
-    /// the end of the stream alone. A pull that failed gave nothing. Each pull is counted.
+    /// Puts the next bytes at the front of the room, which is not empty, and returns how many: 0
+    /// only at the end of the stream. A pull that failed gave nothing. Each pull is counted.
     fn pull(&mut self, into: &mut [u8]) -> Result<usize, Failed>
         requires { 0 < length into.old }
         ensures bound { IfOk result (λ n. n ≤ length into.new) }

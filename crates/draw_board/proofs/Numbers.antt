@@ -34,7 +34,7 @@ numbers-range total a (suc k) (suc n) e h = numbers-in total a (range_with_len (
 pub all_numbers : (total n : ℕ) → total ≤ n → numbers total (range_with_len 0 n) ≡ range_with_len 0 total
 all_numbers total n h = numbers-range total 0 total n (omega arith) h
 
--- how often x is y, where y is a number
+-- how often x is y, if y is a number
 abbrev among : ℕ → ℕ → ℕ → ℕ
 among total x y = cond (ltb y total) (one y x) 0
 
@@ -46,7 +46,7 @@ times-numbers total x (y ∷ ys) = cases (ltb y total) ∙ (omega (arith, times-
     cases true = sum_by-cons (λ z. one z x) y (numbers total ys)
     cases false = omega arith
 
--- a number stands among those of a union as often as among those of both
+-- a number occurs among those of a union as often as among those of both
 pub both_numbers : (total x : ℕ) (mine others all : List ℕ) → Unites mine others all
     → times x (numbers total all) ≡ times x (numbers total mine) + times x (numbers total others)
 both_numbers total x mine others all u = let f : ℕ → ℕ = among total x in

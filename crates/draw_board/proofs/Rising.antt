@@ -17,11 +17,11 @@ one y x = cond (eqb y x) 1 0
 pub one-same : (y x : ℕ) → y ≡ x → one y x ≡ 1
 one-same y x e = ap (λ b. cond b 1 0) (eq-eqb y x e)
 
--- and another number not once
+-- and another number does not occur
 pub one-other : (y x : ℕ) → y ≢ x → one y x ≡ 0
 one-other y x n = ap (λ b. cond b 1 0) (ne_eqb y x n)
 
--- a position stands in a list as often as at its front and behind that
+-- a position occurs in a list as often as at its front and after that
 pub times-cons : (x y : ℕ) (l : List ℕ) → times x (y ∷ l) ≡ one y x + times x l
 times-cons x y l = sum_by-cons (λ z. one z x) y l
 
@@ -50,7 +50,7 @@ merged-moves [] m = IsPermutation-refl m
 merged-moves (x ∷ xs) m = IsPermutation-trans (x ∷ (xs ++ m)) (x ∷ merged xs m) (inserted x (merged xs m))
     (IsPermutation-cons x (xs ++ m) (merged xs m) (merged-moves xs m)) (inserted-moves x (merged xs m))
 
--- a position stands in it as often as in both
+-- a position occurs in it as often as in both
 pub times-merged : (x : ℕ) (l m : List ℕ) → times x (merged l m) ≡ times x l + times x m
 times-merged x l m = sum_by-IsPermutation (λ z. one z x) (l ++ m) (merged l m) (merged-moves l m) ∙ sum_by-append (λ z. one z x) l m
 
@@ -72,7 +72,7 @@ rises-down : (c a : ℕ) (l : List ℕ) (b : ℕ) → c ≤ a → RisesWithin a 
 rises-down c a [] b h r = omega (arith, r)
 rises-down c a (x ∷ xs) b h r = (let p = r.0 in omega arith, r.1)
 
--- behind a rising list may stand what is at or above its range's end
+-- a rising list may be followed by what is at or above the end of its range
 pub rises-push : (a : ℕ) (l : List ℕ) (b p : ℕ) → RisesWithin a l b → b ≤ p → RisesWithin a (l ++ p ∷ []) (suc p)
 rises-push a [] b p r h = (omega (arith, r), omega arith)
 rises-push a (x ∷ xs) b p r h = (r.0, rises-push (suc x) xs b p r.1 h)
@@ -86,7 +86,7 @@ none_below a (y ∷ ys) b x r h = let p = r.0 in omega (
   none_below (suc y) ys b x r.1 (omega arith),
 )
 
--- no position at or above the end of its range stands in a rising list
+-- no position at or above the end of its range occurs in a rising list
 pub none_above : (a : ℕ) (l : List ℕ) (b x : ℕ) → RisesWithin a l b → b ≤ x → times x l ≡ 0
 none_above a [] b x r h = refl
 none_above a (y ∷ ys) b x r h = let p = rises-span (suc y) ys b r.1 in
@@ -126,7 +126,7 @@ rises-whole a (x ∷ xs) b r h = let p = r.0 in let s = rises-span (suc x) xs b 
     let next : suc x ≡ a + 1 = omega arith in
     λ i. same i ∷ (rises-whole (suc x) xs b r.1 (omega arith) ∙ ap (λ (z : ℕ). range_with_len z (length xs)) next) i
 
--- a merged list that rises is of two lists with no position in common
+-- a merged list that rises comes from two lists with no position in common
 pub unites : (l m all : List ℕ) (b : ℕ) → all ≡ merged l m → RisesWithin 0 all b → Unites l m all
 unites l m all b same r = record {
   apart = λ x. let o = rises-once 0 all b x r in let t = times-merged x l m in let e = ap (times x) same in omega arith;

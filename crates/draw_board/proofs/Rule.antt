@@ -29,7 +29,7 @@ shared v = v.share
 abbrev misses : View → ℕ
 misses v = v.left
 
--- after a draw at p the view has this many misses left: as many where p is a number, else one less
+-- after a draw at p the view has this many misses left: as many if p is a number, otherwise one less
 abbrev IsCharged : View → ℕ → Type 0
 IsCharged v p = ((p < v.total) × ((after_draw v p).left ≡ v.left)) ⊎ ((v.total ≤ p) × ((after_draw v p).left + 1 ≡ v.left))
 
@@ -104,7 +104,7 @@ draws key slots id me some_left live s r _ at small = (
     sound : IsSoundView w
     sound = sound_after v n some_left fits.sound fits.passed
 
-    -- nobody has a position that the word has not reached
+    -- no view has a position that the word has not reached
     free : (x : ℕ) → n ≤ x → sum_by (held x) s.views ≡ 0
     free x h = all_zero (held x) s.views (λ j u e. let o = r.each j u e in let p = o.passed in
         none_above 0 u.positions u.seen x o.sound.rises (omega arith))
@@ -168,14 +168,14 @@ announces key slots id me k s r _ at small = let fits = r.each id me.0 at in let
       refl,
     )
 
--- a live hand may look, which changes nothing and tells that its view is sound
+-- a live hand may look, which changes nothing and shows that its view is sound
 pub looks : (key : Key) (slots id : ℕ) (me : Seated) → 1 ≤ me.0.share → Allows (IsSoundBoard key) slots id me 0 (λ n. n)
     (looked (step slots 0 0 0 none) me)
 looks key slots id me live s r _ at small = let fits = r.each id me.0 at in let told = fits.told live in
     let le = term_le shared s.views id me.0 at in let shares = r.all_shares in let of = told.1 in
     (me.0, keeps, tt, unmoved key s r id me me.0 at fits refl refl refl, (refl, fits.sound, omega arith))
 
--- a hand may split off the misses that it announced, where some are left to it
+-- a hand may split off the misses that it announced, if some are left to it
 pub splits : (key : Key) (id : ℕ) (v : View) → 1 ≤ v.asked → v.asked < v.left → Splits (IsSoundBoard key) id v (giver_view v) (given_view v)
 splits key id v some_asked fewer s r at = record {
   one_word = r.one_word;
@@ -292,7 +292,7 @@ first_word : (l : List ℕ) (a : ℕ) → get_elem? l 0 ≡ some a → get_or l 
 first_word [] a e = absurd (some-ne-none a (sym e))
 first_word (x ∷ xs) a e = some-injective x a e
 
--- where a view has all shares, its positions are all that were drawn
+-- if a view has all shares, its positions are all that were drawn
 pub closes : (key : Key) (id : ℕ) (v : View) (ws : List ℕ) (xs : List (Unit {0})) (n : ℕ) → v.share ≡ key.1
     → Final (Seen (IsSoundBoard key) id v) ws xs → get_elem? ws 0 ≡ some n
     → (v.positions ≡ range_with_len 0 n) × (v.seen ≤ n)

@@ -19,18 +19,18 @@ module _ {A : Type 0} where
     term_le (x ∷ xs) zero v e = omega (arith, ap f (some-injective x v e), sum_by-cons f x xs)
     term_le (x ∷ xs) (suc i) v e = omega (arith, term_le xs i v e, sum_by-cons f x xs)
 
-    -- where all terms are 0, so is the sum
+    -- if all terms are 0, so is the sum
     pub all_zero : (l : List A) → ((i : ℕ) (v : A) → get_elem? l i ≡ some v → f v ≡ 0) → sum_by f l ≡ 0
     all_zero [] h = refl
     all_zero (x ∷ xs) h = omega (arith, h 0 x refl, all_zero xs (λ i v e. h (suc i) v e), sum_by-cons f x xs)
 
   module _ (f g : A → ℕ) where
-    -- where no term is above another's, no sum is
+    -- if no term is above another's, no sum is
     pub sum_by-le : (l : List A) → ((i : ℕ) (v : A) → get_elem? l i ≡ some v → f v ≤ g v) → sum_by f l ≤ sum_by g l
     sum_by-le [] h = omega arith
     sum_by-le (x ∷ xs) h = omega (arith, h 0 x refl, sum_by-le xs (λ i v e. h (suc i) v e), sum_by-cons f x xs, sum_by-cons g x xs)
 
-    -- where g adds up to 0, and f is 0 where g is
+    -- if g adds up to 0, and f is 0 where g is
     none_left : (l : List A) → sum_by g l ≡ 0 → ((i : ℕ) (v : A) → get_elem? l i ≡ some v → g v ≡ 0 → f v ≡ 0) → sum_by f l ≡ 0
     none_left [] z h = refl
     none_left (x ∷ xs) z h = let s = sum_by-cons g x xs in
@@ -41,7 +41,7 @@ module _ {A : Type 0} where
           sum_by-cons f x xs,
         )
 
-    -- where all of g is at one place, and f is 0 where g is, all of f is there
+    -- if all of g is at one place, and f is 0 where g is, all of f is there
     pub all_here : (l : List A) (i : ℕ) (v : A) → get_elem? l i ≡ some v → sum_by g l ≡ g v
         → ((j : ℕ) (w : A) → get_elem? l j ≡ some w → g w ≡ 0 → f w ≡ 0) → sum_by f l ≡ f v
     all_here [] i v e all h = absurd (some-ne-none v (sym e))

@@ -43,7 +43,7 @@ pub record IsOf (word : TableId) (key : Key) (hand : Hand) : Type 0 where
   pub bare : hand.seat.me.1 ≡ []
   pub sound : IsSoundView hand.seat.me.0
 
--- the hand is of this board
+-- the hand belongs to this board
 abbrev pub IsHandOf : {A : Type 0} → Board A → Hand → Type 0
 IsHandOf board hand = IsOf board.table.shared.table_id board.table.shared.key hand
 
@@ -63,7 +63,8 @@ pub record IsFirstHand {A : Type 0} (board : Board A) (hand : Hand) : Type 0 whe
 abbrev pub KeepsShare : {A : Type 0} → Board A → Hand → Hand → Type 0
 KeepsShare board old new = IsHandOf board new × (share new ≡ share old)
 
--- what a thread may promise of a hand that it is lent: one of the same board, with the same share
+-- what a thread may promise about a hand that it is lent: one of the same board, with the same
+-- share
 abbrev pub GivesBack : Hand → Hand → Type 0
 GivesBack lent back =
     IsOf lent.seat.table_id (known_key lent.seat.me.0) back × (share back ≡ share lent)

@@ -77,7 +77,7 @@ giver_view v = view (known_key v) v.positions (v.left - v.asked) (v.share - v.as
 abbrev pub given_view : View → View
 given_view v = view (known_key v) [] v.asked v.asked v.seen 0
 
--- a rejoin makes one view of two, which has no number announced
+-- a rejoin makes one view from two, which has no number announced
 abbrev pub joined_view : View → View → View
 joined_view v w =
     view (known_key v) (merged v.positions w.positions) (v.left + w.left)

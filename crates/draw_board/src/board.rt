@@ -1,6 +1,6 @@
 //! The shared word, and what hands do with it.
 //!
-//! The word counts the draws that took a step. So a draw's *position* is what it found there: a
+//! The word counts the draws that took a step. A draw's *position* is the count that it found: a
 //! number if that is below the total, otherwise a *miss*. A hand has a number of misses to spend,
 //! and draws no more once it has none left; the misses of all hands, set at the start, keep the
 //! word from wrapping. A hand's *share* is its misses left and spent, so the hand with all shares
@@ -48,7 +48,7 @@ impl<A: Allocator> Board<A> {
     /// A board of no numbers is fine; a hand with no miss could never learn that all numbers are
     /// drawn.
     ///
-    /// `AllocError` if there is no memory for the word; no other call on a board asks for memory.
+    /// `AllocError` if there is no memory for the word; no other call on a board takes memory.
     pub fn start(alloc: A, total: u32, misses: u32) -> Result<(Board<A>, Hand), AllocError>
         requires { 1 ≤ misses }
         ensures board { IfOk result (λ made. IsBoard made.0 total misses) }
@@ -61,8 +61,8 @@ impl<A: Allocator> Board<A> {
     /// Draws the next number, in one atomic step. `None` if all numbers are drawn already, which
     /// costs the hand one miss; a hand with no miss left returns it without a step, unchanged.
     ///
-    /// It takes no lock and no memory, and waits for nobody. Many threads may draw at a time, each
-    /// with a hand of its own.
+    /// It takes no lock and no memory, and waits for no other thread. Many threads may draw at a
+    /// time, each with a hand of its own.
     pub fn draw(&self, hand: &mut Hand) -> Option<u32>
         requires { IsHandOf self.now hand.old }
 
@@ -121,9 +121,9 @@ impl<A: Allocator> Board<A> {
         hand.misses += misses;
     }
 
-    /// Ends the board, and gives the number of draws that took a step, over all hands. It asks for
-    /// the hand that all others were rejoined into, which is the one whose share is all of the
-    /// board's misses.
+    /// Ends the board, and returns the number of draws that took a step, over all hands. It takes
+    /// the hand that all others were rejoined into: the one whose share is all of the board's
+    /// misses.
     pub fn close(self, hand: Hand) -> u64
         requires { IsHandOf self hand × (share hand ≡ misses_of self) }
 

@@ -7,8 +7,8 @@ use crate::limits::MAX_FORKS;
 use std::thread::{Threads, available_parallelism};
 
 /// How often a list is cut into halves that are worked on at the same time: often enough to give
-/// each processor a part, at least once, and at most four times. To start a thread takes about as
-/// long as a small layer, so more parts than processors only cost time and memory.
+/// each processor a part, at least once, and at most four times. Starting a thread takes about as
+/// long as the work on a small layer, so more parts than processors only cost time and memory.
 pub fn forks<R: Threads>(rt: &R) -> u32
     ensures { (1 ≤ result) × (result ≤ MAX_FORKS) }
 {
@@ -18,7 +18,7 @@ pub fn forks<R: Threads>(rt: &R) -> u32
     }
 }
 
-/// The same for a list of this many items. Of one or two nobody asks how many processors there are.
+/// The same for a list of this many items. For one or two the processors are not counted.
 pub fn forks_of<R: Threads>(rt: &R, items: usize) -> u32
     ensures range { (1 ≤ result) × (result ≤ MAX_FORKS) }
     ensures two { items ≤ 2 → result ≡ 1 }

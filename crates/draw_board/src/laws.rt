@@ -14,7 +14,7 @@ pub fn draws_in_order()
         history total (n + 1) ≡ history total n ++ drawn_at total n ∷ [] }
 {}
 
-/// Once there were as many draws as there are numbers, each number was drawn, once.
+/// After as many draws as there are numbers, each number was drawn, once.
 #[tactic(auto, using(crate::proofs::Numbers::all_numbers))]
 pub fn numbers_once()
     ensures { (total n : ℕ) → total ≤ n →

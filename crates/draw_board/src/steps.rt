@@ -53,7 +53,7 @@ impl Split<View> for Part {
     ghost right = { given_view };
 }
 
-// A rejoin: one view of what both views had.
+// A rejoin: one view with what both views have.
 pub(crate) struct Rejoin;
 
 impl Join<View> for Rejoin {

@@ -1,5 +1,5 @@
--- What is decided about a request at a node is what is decided about it in a session that was begun, if it is served (`decided_at`); and
--- a request for extended attributes where no node has one is not (`not_served`).
+-- The decision about a request at a node is the decision about it in a session that has begun, if it is served (`decided_at`). A request
+-- for extended attributes is not, if no node has one (`not_served`).
 use Rattle.std.proofs.Common.{◌≡◌, true, false, Option, Some, None, Result, Ok, Err, MatchOption, refl}
 use Rattle.fuse_wire.specs.declared.errno.Errno.{Errno}
 use Rattle.fuse_wire.specs.declared.errno.Errno.TheVariants.{ENOSYS, ESTALE}
@@ -13,7 +13,7 @@ use Rattle.reply_model.proofs.Served.{no_init}
 use Rattle.fuse_answer.specs.declared.outcome.Answer.{Answer}
 use Rattle.fuse_answer.specs.Answers.{DecidesAt, DecidesIn, IsAnswer, IsAnswerAt}
 
--- extended attributes where no node has one
+-- extended attributes if no node has one
 pub not_served : (stack : Stacked) (agreed : Agreement) (q : Asked) → asks_xattrs q.op ≡ true → has_xattrs stack ≡ false
     → refusal_in stack false agreed q.node q.op ≡ Some ENOSYS
 not_served stack agreed q a h = rw (no_init q.op a, a, h) refl

@@ -1,5 +1,5 @@
--- The answers to READDIR and READDIRPLUS, or why they are refused: `rows_decided` and `cut_decided` are the main lemmas. Both go from the
--- node's kind to its place (`at_directory`), and there take from `Listed` that a listing has the definitions' rows.
+-- The answers to READDIR and READDIRPLUS, or why they are refused: `rows_decided` and `cut_decided` are the main lemmas. Both find the
+-- node's place from its kind (`at_directory`), and take from `Listed` that a listing has the definitions' rows.
 use Rattle.std.proofs.Common.{◌≡◌, ◌∙◌, sym, ap, ℕ, ◌≤◌, [], ◌∷◌, Bool, true, false, cond, Option, Some, None, Result, Ok, Err, MatchOption, MatchResult, refl, arith}
 use Rattle.std.specs.Prelude.{nat_lt, not, ◌||◌}
 use Rattle.std.proofs.lemmas.Bool.{le-ltb}
@@ -95,7 +95,7 @@ module _ {A : Type 0} (stack : Stacked) (agreed : Agreement) (n offset size : �
       directory
       (sym (cut_same stack true form (with_entries stack) n offset size p is directory l listed) ∙ short)
 
-  -- what is decided at a directory
+  -- the decision at a directory
   at_directory : (plus : Bool) (r : Result (Answer A) Errno) → TellsKind stack n (told_kind Directory)
       → ((p : Place) → node_of stack.entries n ≡ Some p → is_directory_at stack.layers p ≡ true
       → MatchResult r (IsAnswerAt stack agreed (listing_op plus offset size) p) (λ errno. refused_at stack agreed
@@ -110,7 +110,7 @@ module _ {A : Type 0} (stack : Stacked) (agreed : Agreement) (n offset size : �
       go None is kind = absurd (cc)
       go (Some p) is kind = let kind_is : kind_at stack.layers p ≡ Directory = cc in each p is (ap is_directory kind_is)
 
-  -- a directory's rows are answered where one fits or none is left, and the size is not too large
+  -- a directory's rows are answered if one fits or none is left, and the size is not too large
   pub rows_decided : (plus : Bool) (l : Listing A) → TellsKind stack n (told_kind Directory) → size ≤ MAX_DATA_SIZE
       → AreListed stack n offset size plus l → is_cut_short l ≡ false
       → DecidesAt stack agreed n (listing_op plus offset size) (Ok (Rows l))
@@ -118,7 +118,7 @@ module _ {A : Type 0} (stack : Stacked) (agreed : Agreement) (n offset size : �
       at_directory plus (Ok (Rows l)) kind
       (λ p is directory. rows_at_place plus l p is directory (le-ltb MAX_DATA_SIZE size small) small listed whole_rows)
 
-  -- where there is a row and not even one fits, the request is refused with EINVAL
+  -- if there is a row and not even one fits, the request is refused with EINVAL
   pub cut_decided : (plus : Bool) (l : Listing A) → TellsKind stack n (told_kind Directory)
       → AreListed stack n offset size plus l → is_cut_short l ≡ true
       → DecidesAt {A = A} stack agreed n (listing_op plus offset size) (Err EINVAL)

@@ -1,7 +1,6 @@
--- Rows that fit in a room, one after another. `fits_among` and `fits_most` say how many do, off the
--- bytes that the first ones take. `Goes` is what holds as the code goes from row to row, with a
--- lemma for the start, for a row that fits, and for both ends. Then the same sizes off the
--- definitions' rows: `first_rows` says that the rows that fit are as many first ones.
+-- Rows that fit in a room, one after another. `fits_among` and `fits_most` say how many fit, from the bytes that the first ones take.
+-- `Goes` is what holds while the code passes from row to row, with a lemma for the start, for a row that fits, and for both ends. Then the
+-- same sizes follow from the definitions' rows: `first_rows` says that the rows that fit are as many first ones.
 use Rattle.std.proofs.Common.{◌≡◌, ◌∙◌, sym, ap, ℕ, zero, suc, ◌+◌, ◌-◌, ◌<◌, ◌≤◌, List, [], ◌∷◌, ◌++◌, length, map, drop, take, get_or, Bool, true, false, cond, refl, subst, arith}
 use Rattle.std.specs.Prelude.{nat_eq, nat_le, not, ◌&&◌}
 use Rattle.std.proofs.lemmas.Bool.{eq-eqb, ne_eqb, le-leb, lt-leb, leb-true, lt-ltb, ltb-true, ltb-false}
@@ -44,7 +43,7 @@ fits_among room (n ∷ sizes) (suc k) le few =
     let b = one.1 in
     (omega arith, omega arith)
 
--- where first pieces take more than the room, fewer fit
+-- if first pieces take more than the room, fewer fit
 pub fits_most : (room : ℕ) (sizes : List ℕ) (k : ℕ) → room < total (take (suc k) sizes) → fit_count room sizes ≤ k
 fits_most room [] k more = omega arith
 fits_most room (n ∷ sizes) zero more = let e = (fits_none room n sizes (omega (arith, more))).0 in omega arith
@@ -104,7 +103,7 @@ child_length children (suc (suc k)) line n big small is size_is =
     named (x ∷ xs) zero line lt = refl
     named (x ∷ xs) (suc k) line lt = named xs k line (omega (arith, lt))
 
--- the rows from an index on, where there is one
+-- the rows from an index on, if there is one
 sizes_at : (plus : Bool) (children : List Line) (k : ℕ) → k < 2 + length children
     → drop k (row_sizes plus children) ≡ row_size plus (get_or (name_lengths children) k 0) ∷ drop (k + 1) (row_sizes plus children)
 sizes_at plus children k lt =
@@ -133,7 +132,7 @@ length-sizes plus children k =
     let g = length-drop k (row_sizes plus children) in
     omega arith
 
--- how far the rows from an index on were gone through: up to another index, with this room left
+-- the rows from an index on have been passed up to another index, with this room left
 pub record Goes (plus : Bool) (children : List Line) (from size until room : ℕ) : Type 0 where
   pub within : until ≤ 2 + length children
   pub left : room ≤ size
@@ -144,7 +143,7 @@ pub record Goes (plus : Bool) (children : List Line) (from size until room : ℕ
 pub none_gone : (plus : Bool) (children : List Line) (from size : ℕ) → from ≤ 2 + length children → Goes plus children from size from size
 none_gone plus children from size le = record { within = le; left = omega arith; count = refl; bytes = omega arith }
 
--- where the next row fits, it is gone through and its bytes leave the room
+-- if the next row fits, it is passed and its bytes leave the room
 pub one_gone : (plus : Bool) (children : List Line) (from size until room name bytes : ℕ) → until < 2 + length children
     → name ≡ get_or (name_lengths children) until 0 → bytes ≡ row_size plus name → bytes ≤ room
     → Goes plus children from size until room → Goes plus children from size (until + 1) (room - bytes)
@@ -164,7 +163,7 @@ one_gone plus children from size until room name bytes lt is size_is le g =
       bytes = (let l = g.left in let b = g.bytes in omega arith);
     }
 
--- where the next row does not fit, those gone through are the ones that fit
+-- if the next row does not fit, the rows passed are those that fit
 pub no_room : (plus : Bool) (children : List Line) (from size until room name : ℕ) → until < 2 + length children
     → name ≡ get_or (name_lengths children) until 0 → room < row_size plus name
     → Goes plus children from size until room → Fits plus children from size until (size - room)
@@ -182,7 +181,7 @@ no_room plus children from size until room name lt is full g =
       small = omega arith;
     }
 
--- where no row is left, those gone through are the ones that fit
+-- if no row is left, the rows passed are those that fit
 pub all_gone : (plus : Bool) (children : List Line) (from size until room : ℕ) → 2 + length children ≤ until
     → Goes plus children from size until room → Fits plus children from size until (size - room)
 all_gone plus children from size until room le g =
@@ -212,7 +211,7 @@ module _ {A : Type 0} (l : Listing A) where
   unfolding size_of
   size_few = fits_small l.room (drop l.from (row_sizes l.with_entries l.children.now))
 
-  -- where there is a row, a listing is cut short exactly where it does not fit
+  -- if there is a row, a listing is cut short exactly if it does not fit
   pub cut_found : l.from < 2 + length l.children.now → not (fits_at l l.from l.room) ≡ is_cut_short l
   unfolding until_of
   cut_found there =
@@ -245,7 +244,7 @@ module _ (form : Row → List ℕ) where
       go true e = one_more _ ∙ ap (λ t. r ∷ t) e
       go false e = refl
 
-  -- where a first row does not fit, there is one and none is counted
+  -- if a first row does not fit, there is one and none is counted
   pub too_small : (room : ℕ) (rows : List Row) → is_too_small form room rows ≡ true → (fit_count room (sizes_of rows) ≡ 0)
       × (0 < length rows)
   too_small room [] is = absurd (cc)
@@ -253,7 +252,7 @@ module _ (form : Row → List ℕ) where
       let lt : room < length (form r) = ltb-true room (length (form r)) is in
       ((fits_none room (length (form r)) (sizes_of rows) lt).0, omega arith)
 
-  -- where there is a first row and it fits, one at least is counted
+  -- if there is a first row and it fits, one at least is counted
   pub not_too_small : (room : ℕ) (rows : List Row) → is_too_small form room rows ≡ false → 0 < length rows
       → 0 < fit_count room (sizes_of rows)
   not_too_small room [] is some = absurd (omega arith)

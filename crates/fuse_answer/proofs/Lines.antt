@@ -14,7 +14,7 @@ use Rattle.fuse_answer.specs.Listings.{NumberedLine, lines_of, row_size, row_siz
 nothing : NumberedLine
 nothing = (0, record { number = 0; name = [] })
 
--- the sizes of rows, off their names
+-- the sizes of rows, from their names
 names_of : (plus : Bool) (k : ℕ) (lines : List Line) → map (λ (r : NumberedLine). row_size plus (length r.1.name)) (enumerate_from k lines)
     ≡ map (row_size plus) (map (λ (line : Line). length line.name) lines)
 names_of plus k [] = refl

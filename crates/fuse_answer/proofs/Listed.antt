@@ -1,6 +1,5 @@
--- The rows that READDIR and READDIRPLUS are answered, off the rows that a table has. These are the
--- definitions' rows with numbers for places, so a listing's bytes and moves are theirs (`data_same`,
--- `moves_same`), and it is cut short as they say (`cut_same`).
+-- The rows that answer READDIR and READDIRPLUS, from the rows of a table. These are the definitions' rows with numbers instead of places,
+-- so a listing's bytes and moves are theirs (`data_same`, `moves_same`), and it is cut short as they say (`cut_same`).
 use Rattle.std.proofs.Common.{◌≡◌, ◌∙◌, sym, ap, ℕ, zero, suc, ◌+◌, ◌-◌, ◌/◌, ◌^◌, List, [], ◌∷◌, ◌++◌, length, map, drop, take, min, Bool, true, false, cond, Some, None, pos, refl, arith}
 use Rattle.std.specs.Prelude.{nat_le, nat_lt, nat_eq, filter, ◌&&◌}
 use Rattle.std.specs.List.{enumerate_from, flat_map, AllByRecursion}
@@ -90,7 +89,7 @@ given_rows stack (r ∷ rs) = go (nat_lt 2 r.0) (given_rows stack rs)
     go true e = ap (λ t. give stack r.1.place ∷ t) e
     go false e = e
 
--- a form of the definitions' rows has the length and, where places have numbers, the bytes of a
+-- a form of the definitions' rows has the length and, if places have numbers, the bytes of a
 -- table's
 pub record IsForm (stack : Stacked) (plus : Bool) (form : Row → List ℕ) : Type 0 where
   pub sized : (r : Row) → length (form r) ≡ row_size plus (length r.1.name)
@@ -210,7 +209,7 @@ module _ {A : Type 0} (stack : Stacked) (plus : Bool) (form : Row → List ℕ) 
       answered_same
       ∙ given_rows stack (fitting form size rest)
 
-  -- a listing is cut short exactly where its first row does not fit
+  -- a listing is cut short exactly if its first row does not fit
   pub cut_same : is_cut_short l ≡ is_too_small form size rest
   cut_same = go (is_too_small form size rest) refl
     where

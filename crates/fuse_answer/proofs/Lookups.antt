@@ -1,5 +1,5 @@
--- The answer to LOOKUP if its name finds a node below a directory: `found_below` is the main lemma. The node that the definitions find has
--- a number (`numbered_found`), so the entry with that number is its entry (`entry_at`).
+-- The answer to LOOKUP if its name finds a node in a directory: `found_below` is the main lemma. The node that the definitions find has a
+-- number (`numbered_found`), so the entry with that number is its entry (`entry_at`).
 use Rattle.std.proofs.Common.{◌≡◌, ◌∙◌, sym, ap, ℕ, List, [], ◌∷◌, is_none, length, Bool, true, false, Option, Some, None, Result, Ok, Err, refl, subst, MatchOption, MatchResult, nat_lt, if◌then◌else◌}
 use Rattle.std.specs.Prelude.{◌&&◌, not}
 use Rattle.std.specs.Option.{option_map}

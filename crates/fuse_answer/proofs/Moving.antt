@@ -1,6 +1,5 @@
--- Balances, after one row and another (`AddsGiven`: none, an entry, rows and then others, all), and
--- after one item that is forgotten and another (`IsTaken`). Then the same where moves are appended to
--- a list (`given`, `AreTaken`).
+-- Balances, after one row and another (`AddsGiven`: none, an entry, rows and then others, all), and after one forgotten item and another
+-- (`IsTaken`). Then the same for moves that are appended to a list (`given`, `AreTaken`).
 use Rattle.std.proofs.Common.{◌≡◌, ◌∙◌, sym, ap, ℕ, ◌+◌, ◌-◌, ◌*◌, ◌^◌, ◌<◌, ◌≤◌, ℤ, pos, neg_ℤ, List, [], ◌∷◌, ◌++◌, length, map, Bool, true, false, cond, Option, Some, None, Err, Vec, vec_len, vec_capacity, refl, subst, arith, append-nil, append_assoc, length-append}
 use Rattle.std.specs.Prelude.{nat_lt, filter}
 use Rattle.std.specs.List.{cons_option}
@@ -42,14 +41,14 @@ weight_row r = go (nat_lt 2 r.0)
     go false = omega arith
 
 module _ {A : Type 0} (l : Listing A) where
-  -- what the rows before an index give
+  -- the lookups that the rows before an index give
   abbrev pub given : ℕ → List Move
   given index = lines_given (lines_before l index)
 
   row_is : (index : ℕ) (next : IsNext l index) → row_given l index ≡ lines_given (next.line ∷ [])
   row_is index next = ap (λ o. option_map_or (λ r. lines_given (r ∷ [])) o []) next.there
 
-  -- the rows before the next index give what those before this one do, and what its row does
+  -- the rows before the next index give what those before this one give, and what its row gives
   pub given_next : (index : ℕ) → l.from ≤ index → index < 2 + length l.children.now → given (index + 1) ≡ given index ++ row_given l index
   given_next index from until =
       let next = next_line l index from until in
@@ -111,7 +110,7 @@ module _ {A : Type 0} (l : Listing A) where
   pub adds_none : (index : ℕ) (now : List ℤ) → AreWithin (2 ^ 123 + (index - l.from)) now → AddsGiven l index index now now
   adds_none index now within = record { rows = λ first so_far. so_far; within = within }
 
-  -- rows add what they give, and then those behind them do
+  -- rows add what they give, and then those after them do
   pub adds_on : (from index until : ℕ) (old now next : List ℤ) → AddsGiven l from index old now → AddsGiven l index until now next
       → AddsGiven l from until old next
   adds_on from index until old now next some more = record {
@@ -128,7 +127,7 @@ module _ {A : Type 0} (l : Listing A) where
       none_yet true = subst (λ ls. IsMoved (lines_given ls) old old) (sym (none_before l)) (none_moved old)
       none_yet false = none_moved old
 
-  -- where an index is the last one's, all that is answered gives what the rows before it do
+  -- if an index is the last one's, everything answered gives what the rows before it give
   pub all_given : (index : ℕ) → index ≡ until_of l → given index ≡ lines_given (lines_answered l)
   all_given index is = ap given is
 
@@ -154,11 +153,11 @@ weight_forget stack f small = go (node_of stack.entries f.node)
     go None = omega arith
     go (Some p) = omega (arith, ints)
 
--- where the first item that is left is done, the others are left
+-- if the first item that is left is done, the others are left
 split_next : (done rest later all : List Forget) (f : Forget) → rest ≡ f ∷ later → done ++ rest ≡ all → (done ++ f ∷ []) ++ later ≡ all
 split_next done rest later all f is split = append_assoc done (f ∷ []) later ∙ ap (λ t. done ++ t) (sym is) ∙ split
 
--- where none is left, all are done
+-- if none is left, all are done
 all_done : (done rest all : List Forget) → rest ≡ [] → done ++ rest ≡ all → done ≡ all
 all_done done rest all none split = sym (append-nil done) ∙ ap (λ t. done ++ t) (sym none) ∙ split
 
@@ -180,7 +179,7 @@ none_taken stack all old within = record {
   within = within_less (2 ^ 123) (2 ^ 123 + 2 ^ 64 * 0) old (omega arith) within;
 }
 
--- where an item is taken back, one more of all is
+-- if an item is taken back, one more of all items is
 pub one_taken : (stack : Stacked) (all rest later : List Forget) (f : Forget) (count : ℕ) (old now next : List ℤ) → f.nlookup < 2 ^ 64
     → rest ≡ f ∷ later → IsTaken stack all rest count old now → IsMoved (taken_back stack (f ∷ [])) now next
     → IsTaken stack all later (count + 1) old next
@@ -199,7 +198,7 @@ one_taken stack all rest later f count old now next small is so_far step =
           (within_moved (2 ^ 123 + 2 ^ 64 * count) (taken_back stack (f ∷ [])) now next so_far.within step);
     }
 
--- where none is left, all were taken back
+-- if none is left, all were taken back
 pub none_left : (stack : Stacked) (all rest : List Forget) (count : ℕ) (old new : List ℤ) → rest ≡ []
     → IsTaken stack all rest count old new → IsMoved (taken_back stack all) old new
 none_left stack all rest count old new none so_far =
@@ -210,7 +209,7 @@ pub room_left : (count most : ℕ) (now : List ℤ) → count < most → most �
     → AreWithin (2 ^ 124) now
 room_left count most now less few within = within_less (2 ^ 123 + 2 ^ 64 * count) (2 ^ 124) now (omega arith) within
 
--- where as many were taken back as there are, all were
+-- if as many were taken back as there are, all were
 pub all_taken : (stack : Stacked) (all rest : List Forget) (count : ℕ) (old new : List ℤ) → length all ≤ count
     → IsTaken stack all rest count old new → IsMoved (taken_back stack all) old new
 all_taken stack all rest count old new enough so_far =
@@ -223,7 +222,7 @@ all_taken stack all rest count old new enough so_far =
     empty [] le = refl
     empty (f ∷ fs) le = absurd (omega (arith, le))
 
--- where some were appended and there is no room for the next, there is none for all that begin so
+-- if some were appended and there is no room for the next, there is none for any list that begins with these
 pub stopped : {A E : Type 0} (e : E) (before now after : Vec Move A) (done next all : List Move) → now.items ≡ before.items ++ done
     → after.items ≡ now.items → vec_capacity now < vec_len now + length next → vec_capacity before ≤ vec_capacity now
     → vec_capacity now ≤ vec_capacity after → length done + length next ≤ length all
@@ -239,7 +238,7 @@ stopped e before now after done next all so_far same full room grown less =
 pub none_given : {A : Type 0} (l : Listing A) (before : List Move) → before ≡ before ++ given l l.from
 none_given l before = sym (append-nil before) ∙ ap (λ ls. before ++ lines_given ls) (sym (none_before l))
 
--- where a row's move is appended after those before it, those before the next one are
+-- if a row's move is appended after those before it, the moves before the next row are appended
 pub row_appended : {A : Type 0} (l : Listing A) (index : ℕ) (before now next : List Move) → l.from ≤ index
     → index < 2 + length l.children.now
     → now ≡ before ++ given l index → next ≡ now ++ row_given l index → next ≡ before ++ given l (index + 1)
@@ -247,7 +246,7 @@ row_appended l index before now next from there so_far is =
     is ∙ ap (λ m. m ++ row_given l index) so_far ∙ append_assoc before (given l index) (row_given l index)
     ∙ ap (λ m. before ++ m) (sym (given_next l index from there))
 
--- what is taken back of some items, and of one more, is no more than what is of all
+-- some items, and one more, take back no more than all
 pub taken_less : (stack : Stacked) (done : List Forget) (f : Forget) (later all rest : List Forget) → rest ≡ f ∷ later → done ++ rest ≡ all
     → length (taken_back stack done) + length (taken_back stack (f ∷ [])) ≤ length (taken_back stack all)
 taken_less stack done f later all rest is split =
@@ -259,7 +258,7 @@ taken_less stack done f later all rest is split =
     let d = length-append (taken_back stack (f ∷ [])) (taken_back stack later) in
     omega arith
 
--- what was taken back of all items was appended, and these are left
+-- the lookups that items take back were appended, and these items are left
 pub record AreTaken (stack : Stacked) (all rest : List Forget) (before now : List Move) : Type 0 where
   pub done : List Forget
   pub split : done ++ rest ≡ all
@@ -269,7 +268,7 @@ pub record AreTaken (stack : Stacked) (all rest : List Forget) (before now : Lis
 pub none_appended : (stack : Stacked) (all : List Forget) (before : List Move) → AreTaken stack all all before before
 none_appended stack all before = record { done = []; split = refl; moves = sym (append-nil before) }
 
--- where what is taken back of an item is appended, one more of all is done
+-- if the lookups that an item takes back are appended, one more of all items is done
 pub one_appended : (stack : Stacked) (all rest later : List Forget) (f : Forget) (before now next : List Move) → rest ≡ f ∷ later
     → AreTaken stack all rest before now → next ≡ now ++ taken_back stack (f ∷ []) → AreTaken stack all later before next
 one_appended stack all rest later f before now next is so_far step = record {
@@ -280,7 +279,7 @@ one_appended stack all rest later f before now next is so_far step = record {
       ∙ ap (λ m. before ++ m) (sym (taken_on stack so_far.done (f ∷ [])));
 }
 
--- where none is left, what is taken back of all items was appended
+-- if none is left, the lookups that all items take back were appended
 pub all_appended : (stack : Stacked) (all rest : List Forget) (before now : List Move) → rest ≡ [] → AreTaken stack all rest before now
     → now ≡ before ++ taken_back stack all
 all_appended stack all rest before now none so_far =

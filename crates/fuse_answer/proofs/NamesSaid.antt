@@ -1,6 +1,6 @@
 -- Names of a file's extended attributes, one after another: those before a position and the one there are those before the next
--- (`said_next`); after the last they are all (`said_all`). None of them are more bytes than all (`said_less`), and those are few
--- (`said_few`). What is answered of one attribute: its name with a zero byte, or nothing (`name_said`, `name_kept`, `none_said`).
+-- (`said_next`); after the last they are all (`said_all`). No part of them has more bytes than all (`said_less`), and those are few
+-- (`said_few`). What one attribute adds to the answer: its name with a zero byte, or nothing (`name_said`, `name_kept`, `none_said`).
 use Rattle.std.proofs.Common.{◌≡◌, ◌∙◌, sym, ap, ℕ, zero, suc, ◌+◌, ◌≤◌, List, [], ◌∷◌, ◌++◌, length, take, drop, Bool, true, false, cond, Option, Some, None, refl, arith, append_assoc, length-append}
 use Rattle.std.specs.Prelude.{slice_get, not, ◌&&◌}
 use Rattle.std.specs.List.{list_all}
@@ -74,14 +74,14 @@ module _ (names : Names) where
       let m = all_few e in
       omega arith
 
-  -- and there is room for it where there is for all
+  -- and there is room for it if there is for all
   pub said_fits : (n : ℕ) → length (said_before names n) + length (said_at names n) ≤ length (names_said names)
   said_fits n =
       let next = ap length (said_next n) ∙ length-append (said_before names n) (said_at names n) in
       let l = said_less (n + 1) in
       omega arith
 
-  -- behind the last there is none
+  -- after the last there is none
   pub none_past : (n : ℕ) → length (list_of names) ≤ n → said_at names n ≡ []
   none_past n l = ap (λ o. names_of (xattrs_told names.acls (option_to_list o))) (slice_get_past (list_of names) n l) ∙ empty names.acls
     where

@@ -1,6 +1,5 @@
--- The places that a request may meet have numbers: of nodes, of the directories above them, and of
--- their children. Directories above and children are found among the entries, and `numbered_entry`,
--- the main lemma, says that the place of each entry has a number.
+-- The places that a request may meet have numbers: those of nodes, of their parent directories, and of their children. Parents and children
+-- are found among the entries, and `numbered_entry`, the main lemma, says that the place of each entry has a number.
 use Rattle.std.proofs.Common.{◌≡◌, ◌∙◌, ap, ℕ, ◌⊎◌, inl, inr, List, [], ◌∷◌, Bool, cond, true, false, Option, Some, None, IsSome, refl, subst, unwrap_or, length, take, ◌-◌}
 use Rattle.std.specs.List.{find, filter_map, cons_option, AllByRecursion}
 use Rattle.std.specs.Option.{option_map, option_map_or}

@@ -1,6 +1,6 @@
 -- Reading parts of a node's data: their length (`part_long`), their place in the image of their layer (`part_there`), and that a READ gets
 -- what it asks for (`read_decided`). Possible replies: with no bytes the reply itself (`nothing_told`), also without a file (`table_told`)
--- and from held bytes (`held_appended`); from the file of their layer what it gives (`file_read`).
+-- and from held bytes (`held_appended`); from the file of their layer what the file returns (`file_read`).
 use Rattle.std.proofs.Common.{◌≡◌, ◌∙◌, sym, ap, subst, ℕ, ◌+◌, ◌-◌, ◌≤◌, min, inl, List, [], ◌++◌, length, take, drop, map, Bool, Bor, Option, Some, None, Result, Ok, Err, refl, arith, length-drop}
 use Rattle.std.specs.Prelude.{slice_get}
 use Rattle.std.specs.Option.{option_map}
@@ -61,7 +61,7 @@ module _ (layers : List (List ℕ)) (layer : ℕ) (node : Node) (p : Place) (hol
         let t = length-take len (drop offset (data_of layers p)) in
         omega arith
 
-    -- and stands in the image of the layer behind where the data begin
+    -- and is in the image of the layer after the place where the data begin
     pub part_there : (image : List ℕ) → slice_get layers layer ≡ Some image
         → bytes_at image (node.part.start + offset) len ≡ take len (drop offset (data_of layers p))
     unfolding bytes_at
@@ -96,7 +96,7 @@ module _ (A : Type 0) (stack : Stacked) (agreed : Agreement) (n offset size : �
       → DecidesAt {A = A} stack agreed n (read offset size) (Ok (Data (record { node = node; offset = offset; len = len })))
   read_decided node len is kind small count = rw is.place_is (read_at_place node len is kind small count)
 
--- what may be told as defined is appended as defined
+-- a reply that may be as defined is appended as defined
 pub appends_told : {E : Type 0} (reading : Option Reading) (result : Result (Unit {0}) E) (before after : Filled) (unique : ℕ)
     (defined : List ℕ) → IsTold reading unique defined defined → Appends result before after defined
     → AppendsTold result before after reading unique defined

@@ -1,7 +1,6 @@
--- The bytes of a directory's rows, row by row: `IsSoFar` is what holds as they are appended, from
--- none (`none_written`) by each that is appended (`row_next`) to all (`all_rows`). Rows that take no
--- more than a listing's room are answered, and then others are not (`answered`, `last_answered`), so
--- these are all where no more fit (`fits_no_more`). The header's length is set last (`header_set`).
+-- The bytes of a directory's rows, row by row: `IsSoFar` is what holds as they are appended, from none (`none_written`) over each that is
+-- appended (`row_next`) to all (`all_rows`). Rows that take no more than a listing's room are answered, and further ones are not
+-- (`answered`, `last_answered`), so these are all if no more fit (`fits_no_more`). The header's length is set last (`header_set`).
 use Rattle.std.proofs.Common.{◌≡◌, ◌∙◌, sym, ap, ℕ, zero, suc, ◌+◌, ◌-◌, ◌/◌, ◌^◌, ◌<◌, ◌≤◌, List, [], ◌∷◌, ◌++◌, length, map, drop, take, get_or, Bool, true, false, cond, Option, Some, None, refl, subst, arith, append-nil, append_assoc, length-append}
 use Rattle.std.specs.Prelude.{nat_le, nat_lt, ◌&&◌, slice_get, replicate, MatchOption, IfSome}
 use Rattle.std.specs.List.{enumerate_from, flat_map}
@@ -50,7 +49,7 @@ length-line_bytes stack true r =
 abbrev pub written : {A : Type 0} → Stacked → Listing A → ℕ → List ℕ
 written stack l index = flat_map (line_bytes stack l.with_entries) (lines_before l index)
 
--- the name of a row with zeros behind it, as a row is set from it
+-- the name of a row with zeros after it, as a row is set from it
 pub padded_there : {A : Type 0} (l : Listing A) (index : ℕ) (r : NumberedLine) (padded : List ℕ) → slice_get (lines_of l) index ≡ Some r
     → IsPaddedAt l index padded → padded ≡ r.1.name ++ zeros (22 - length r.1.name)
 unfolding zeros
@@ -63,7 +62,7 @@ pub padded_short : {A : Type 0} (l : Listing A) (index : ℕ) (r : NumberedLine)
 padded_short l index r padded is there =
     (subst (λ o. IfSome o (λ r. (length r.1.name ≤ 22) × (padded ≡ r.1.name ++ replicate (22 - length r.1.name) 0))) is there).0
 
--- a name that may stand with zeros behind it, of the row with an index
+-- a name, padded with zeros, of the row with an index
 pub padded_line : {A X : Type 0} (o : Option X) (now : X → List ℕ) (l : Listing A) (index : ℕ) (r : NumberedLine)
     → slice_get (lines_of l) index ≡ Some r
     → MatchOption o (22 < length r.1.name) (λ p. (length r.1.name ≤ 22)
@@ -101,7 +100,7 @@ both_true : (a b : Bool) → (a && b) ≡ true → (a ≡ true) × (b ≡ true)
 both_true true b is = (refl, is)
 both_true false b is = absurd (cc)
 
--- rows stand behind a header
+-- rows follow a header
 pub rows_behind : (before made head headed rows items : List ℕ) → made ≡ before → headed ≡ made ++ head → items ≡ headed ++ rows
     → items ≡ (before ++ head) ++ rows
 rows_behind before made head headed rows items kept put all =
@@ -115,7 +114,7 @@ reply_long before head rows items is long =
     let both = length-append before head in
     omega arith
 
--- where there was room for a header and this many bytes, and the header was put, there is room for these
+-- if there was room for a header and this many bytes, and the header was put, there is room for these
 pub room_left : (before made head headed : List ℕ) (made_room headed_room size : ℕ) → made ≡ before → headed ≡ made ++ head
     → length head ≡ 16 → length before + (16 + size) ≤ made_room → made_room ≤ headed_room → length headed + size ≤ headed_room
 room_left before made head headed made_room headed_room size kept put long room grown =
@@ -123,7 +122,7 @@ room_left before made head headed made_room headed_room size kept put long room 
     let both = ap length put ∙ length-append made head in
     omega arith
 
--- a header is set in front of rows, over the one that stood there
+-- a header is set in front of rows, over the earlier one
 pub header_set : (unique : ℕ) (before head rows items new : List ℕ) (start : ℕ) → items ≡ (before ++ head) ++ rows
     → start ≡ length before → length head ≡ 16 → new ≡ take start items ++ reply_with unique (drop (start + 16) items)
     → new ≡ before ++ reply_with unique rows
@@ -180,7 +179,7 @@ module _ {A : Type 0} (stack : Stacked) (l : Listing A) where
       let d = length-append (written stack l index) (row_bytes_at stack l index) in
       omega arith
 
-  -- a row with a name is written with a name of less than 2^32 bytes where it is short
+  -- a row with a name is written with a name of less than 2^32 bytes if it is short
   pub short_name : (index : ℕ) (r : NumberedLine) → slice_get (lines_of l) index ≡ Some r
       → length (row_bytes_at stack l index) < 2 ^ 32 → length r.1.name < 2 ^ 32
   short_name index r is short =
@@ -188,7 +187,7 @@ module _ {A : Type 0} (stack : Stacked) (l : Listing A) where
       let sized = length-line_bytes stack l.with_entries r in
       omega arith
 
-  -- no row is answered that is not there
+  -- only existing rows are answered
   pub until_there : IsWhole l → until_of l ≤ 2 + length l.children.now
   unfolding until_of
   until_there whole =
@@ -209,7 +208,7 @@ module _ {A : Type 0} (stack : Stacked) (l : Listing A) where
       let b = among.1 in
       (omega arith, omega arith)
 
-  -- and where one more takes more, no others are
+  -- and if one more takes more, no others are
   pub last_answered : (index : ℕ) → l.from ≤ index → l.room < length (written stack l (index + 1)) → until_of l ≤ index
   unfolding until_of
   last_answered index from more =
@@ -238,7 +237,7 @@ module _ {A : Type 0} (stack : Stacked) (l : Listing A) where
   pub none_written : (before : List ℕ) → IsSoFar before l.from before
   none_written before = sym (append-nil before) ∙ ap (λ ls. before ++ flat_map bytes_of ls) (sym (none_before l))
 
-  -- where a row is appended after those before it, those before the next one are written
+  -- if a row is appended after those before it, those before the next one are written
   pub row_next : (index : ℕ) (before now next : List ℕ) → l.from ≤ index → index < 2 + length l.children.now
       → IsSoFar before index now → next ≡ now ++ row_bytes_at stack l index → IsSoFar before (index + 1) next
   row_next index before now next from there so_far is =
@@ -250,7 +249,7 @@ module _ {A : Type 0} (stack : Stacked) (l : Listing A) where
   pub all_rows : (index : ℕ) (before now : List ℕ) → index ≡ until_of l → IsSoFar before index now → now ≡ before ++ listed_data stack l
   all_rows index before now end so_far = so_far ∙ ap (λ i. before ++ written stack l i) end
 
-  -- where the row with the index fits in what is left of the room, all that is answered has it
+  -- if the row with the index fits in the remaining room, it is among the rows that are answered
   pub record FitsNext (index left : ℕ) (before now : List ℕ) : Type 0 where
     pub there : index < 2 + length l.children.now
     pub ends : length (row_bytes_at stack l index) ≤ left
@@ -270,7 +269,7 @@ module _ {A : Type 0} (stack : Stacked) (l : Listing A) where
       let among = (answered (index + 1) (omega arith) (omega arith) (omega arith)).1 in
       record { there = there; ends = omega arith; within = omega arith }
 
-  -- where none does, the rows that were written are those that are answered
+  -- if none does, the rows that were written are those that are answered
   pub fits_no_more : (index left : ℕ) (before now : List ℕ) → IsWhole l → l.from ≤ index → index ≤ 2 + length l.children.now
       → IsSoFar before index now → length now + left ≡ length before + l.room → fits_at l index left ≡ false → index ≡ until_of l
   fits_no_more index left before now whole from within so_far is full = go (nat_lt index (2 + length l.children.now)) refl full
@@ -296,7 +295,7 @@ module _ {A : Type 0} (stack : Stacked) (l : Listing A) where
           let last = last_answered index from (omega arith) in
           omega arith
 
-  -- behind the last row none fits
+  -- after the last row none fits
   pub none_left : (index : ℕ) (before now : List ℕ) → IsWhole l → l.from ≤ index → index ≡ 2 + length l.children.now
       → IsSoFar before index now → length now ≤ length before + l.room → index ≡ until_of l
   none_left index before now whole from last so_far less =

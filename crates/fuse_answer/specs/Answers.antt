@@ -1,4 +1,4 @@
--- The decision about a request: its answer's data and moves, or its refusal.
+-- The decision about a request: its answer's data and moves, or the error that refuses it.
 use Rattle.std.specs.Prelude.{◌≡◌, ℕ, Bool, true, false, List, [], ◌∷◌, Option, Some, None, MatchOption, MatchResult, Result, Ok, Err, pos, ◌+◌, ◌<◌, ◌≤◌, ◌==◌, nat_lt, take, drop, length, if◌then◌else◌}
 use Rattle.std.specs.List.{filter_map}
 use Rattle.std.specs.Option.{option_map}
@@ -58,21 +58,22 @@ answer_data stack (Rows listing) = listed_data stack listing
 answer_data stack (Forgotten forget) = []
 answer_data stack (AllForgotten items) = []
 
--- bytes by the size of a request: with 0 how many they are, and else these, unless they are more
+-- bytes by the size of a request: their length if it is 0, otherwise the bytes, unless they are
+-- more
 abbrev pub by_size : {A : Type 0} → ℕ → ℕ → Answer A → Result (Answer A) Errno
 by_size size len a =
     if size == 0 then Ok (Size len) else if nat_lt size len then Err ERANGE else Ok a
 
--- what they are read from
+-- what they are read from, and from where on
 abbrev pub answer_reading : {A : Type 0} → Sourced → Answer A → Option Reading
 answer_reading by (Data part) = data_reading by part.offset (placed part.node.now.place)
 answer_reading by _ = None
 
--- what is taken back of the nodes that are in use
+-- the lookups that are taken back, of the nodes that are in use
 abbrev pub taken_back : Stacked → List Forget → List Move
 taken_back stack forgets = filter_map (take_back stack) forgets
 
--- what it gives and takes
+-- the lookups that it gives and takes
 abbrev pub answer_moves : {A : Type 0} → Stacked → Answer A → List Move
 answer_moves stack (Entry attr) = record { node = attr.ino; amount = pos 1 } ∷ []
 answer_moves stack (Rows listing) = listed_moves listing
@@ -80,7 +81,7 @@ answer_moves stack (Forgotten forget) = taken_back stack (forget ∷ [])
 answer_moves stack (AllForgotten items) = taken_back stack (items_of items)
 answer_moves stack _ = []
 
--- the kind of the node with this number, or that it is not in use
+-- the kind of the node with this number, or the error if it is not in use
 abbrev pub TellsKind : Stacked → ℕ → Result Kind Errno → Type 0
 TellsKind stack node result =
     MatchOption (node_of stack.entries node) (result ≡ Err ESTALE)
@@ -108,7 +109,7 @@ IsInFile stack part =
     HoldsOwnData stack part.node.now
     × (0 < part.len → part.offset + part.len ≤ part.node.now.part.len)
 
--- its data are where they are read, and have a length that a reply's header can hold
+-- its data are where they are read from, and have a length that fits in a reply's header
 abbrev pub IsSized : {A : Type 0} → Stacked → Answer A → Type 0
 IsSized stack (Target node) = HoldsOwnData stack node.now
 IsSized stack (Data part) = IsInFile stack part
@@ -127,7 +128,7 @@ pub record IsAnswerAt {A : Type 0} (stack : Stacked) (agreed : Agreement) (op : 
   pub sized : IsSized stack a
   pub moves_are : answer_moves stack a ≡ gives_at stack agreed op p
 
--- what is decided about a request at the node with this number: it is answered, or refused
+-- the decision about a request at the node with this number: an answer, or an error
 abbrev pub DecidesAt : {A : Type 0} → Stacked → Agreement → ℕ → NodeOp → Result (Answer A) Errno
     → Type 0
 DecidesAt stack agreed node op result =
@@ -145,7 +146,7 @@ pub record IsAnswer {A : Type 0} (stack : Stacked) (fresh : Bool) (agreed : Agre
   pub sized : IsSized stack a
   pub moves_are : answer_moves stack a ≡ moved stack agreed q.node q.op
 
--- what is decided about a request
+-- the decision about a request
 abbrev pub DecidesIn : {A : Type 0} → Stacked → Bool → Agreement → Asked → Result (Answer A) Errno
     → Type 0
 DecidesIn stack fresh agreed q result =

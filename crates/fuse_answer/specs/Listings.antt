@@ -1,4 +1,4 @@
--- Rows of a directory as a table gives them.
+-- Rows of a directory, from a table.
 use Rattle.std.specs.Prelude.{◌≡◌, ℕ, ◌+◌, ◌-◌, ◌/◌, ◌^◌, ◌≤◌, ◌<◌, ◌==◌, ◌&&◌, min, MatchOption, IfSome, length, List, [], ◌∷◌, ◌++◌, replicate, map, take, drop, filter, Bool, nat_lt, nat_le, slice_get, slice_index, Option, Some, None, pos, codes, if◌then◌else◌}
 use Rattle.std.specs.List.{enumerate_from, flat_map}
 use Rattle.std.specs.Option.{option_map_or}
@@ -15,7 +15,7 @@ use Rattle.fuse_answer.specs.declared.listing.Listing.{Listing}
 abbrev pub NumberedLine : Type 0
 NumberedLine = ℕ × Line
 
--- the type of a node, as a row says it
+-- the type of a node in a row
 abbrev pub type_at : Stacked → ℕ → ℕ
 type_at stack n = option_map_or (λ a. a.mode / 2 ^ 12) (attr_at stack n) 0
 
@@ -37,7 +37,7 @@ abbrev pub IsLineAt : {A : Type 0} → Listing A → ℕ → ℕ → List ℕ �
 IsLineAt l index number name =
     slice_get (lines_of l) index ≡ Some (index + 1, record { number = number; name = name })
 
--- these are the bytes of the name of the row with an index, and zeros up to 22
+-- these are the bytes of the name of the row with an index, padded with zeros to 22
 abbrev pub IsPaddedAt : {A : Type 0} → Listing A → ℕ → List ℕ → Type 0
 IsPaddedAt l index padded =
     IfSome (slice_get (lines_of l) index) (λ r. (length r.1.name ≤ 22)
@@ -52,7 +52,7 @@ abbrev pub fit_count : ℕ → List ℕ → ℕ
 fit_count room [] = 0
 fit_count room (n ∷ sizes) = if nat_le n room then 1 + fit_count (room - n) sizes else 0
 
--- how many bytes those take
+-- how many bytes these take
 abbrev pub fit_size : ℕ → List ℕ → ℕ
 fit_size room [] = 0
 fit_size room (n ∷ sizes) = if nat_le n room then n + fit_size (room - n) sizes else 0
@@ -65,16 +65,16 @@ name_lengths children = 1 ∷ 2 ∷ map (λ line. length line.name) children
 abbrev pub row_sizes : Bool → List Line → List ℕ
 row_sizes with_entries children = map (row_size with_entries) (name_lengths children)
 
--- up to which index a listing answers rows: as many as fit completely in its room
+-- the index up to which a listing answers rows: as many as fit completely in its room
 unfoldable pub until_of : {A : Type 0} → Listing A → ℕ
 until_of l =
     l.from + fit_count l.room (drop l.from (row_sizes l.with_entries l.children.now))
 
--- how many bytes those take
+-- how many bytes these take
 unfoldable pub size_of : {A : Type 0} → Listing A → ℕ
 size_of l = fit_size l.room (drop l.from (row_sizes l.with_entries l.children.now))
 
--- those that it answers
+-- the rows that it answers
 abbrev pub lines_answered : {A : Type 0} → Listing A → List NumberedLine
 lines_answered l = take (until_of l - l.from) (drop l.from (lines_of l))
 
@@ -90,12 +90,12 @@ line_bytes stack plus r =
     (type_at stack r.1.number) r.1.name
     else dirent r.1.number r.0 (type_at stack r.1.number) r.1.name
 
--- what rows give: one lookup of each node, but for . and ..
+-- the lookups that rows give: one of each node, except for . and ..
 abbrev pub lines_given : List NumberedLine → List Move
 lines_given lines =
     map (λ r. record { node = r.1.number; amount = pos 1 }) (filter is_child_line lines)
 
--- what the row with an index gives
+-- the lookup that the row with an index gives
 abbrev pub row_given : {A : Type 0} → Listing A → ℕ → List Move
 row_given l index = option_map_or (λ r. lines_given (r ∷ [])) (slice_get (lines_of l) index) []
 
@@ -113,11 +113,11 @@ bytes_before stack l index =
 abbrev pub listed_data : {A : Type 0} → Stacked → Listing A → List ℕ
 listed_data stack l = flat_map (line_bytes stack l.with_entries) (lines_answered l)
 
--- what they give, if they have entries
+-- the lookups that they give, if they have entries
 abbrev pub listed_moves : {A : Type 0} → Listing A → List Move
 listed_moves l = if l.with_entries then lines_given (lines_answered l) else []
 
--- what the rows before an index give, if they have entries
+-- the lookups that the rows before an index give, if they have entries
 abbrev pub moves_before : {A : Type 0} → Listing A → ℕ → List Move
 moves_before l index =
     if l.with_entries then lines_given (take (index - l.from) (drop l.from (lines_of l))) else []
@@ -147,7 +147,7 @@ fits_at l index room =
     nat_lt index (2 + length l.children.now)
     && nat_le (row_size l.with_entries (slice_index (name_lengths l.children.now) index)) room
 
--- there is a row, and not even one is answered
+-- a row remains, and not even one fits
 abbrev pub is_cut_short : {A : Type 0} → Listing A → Bool
 is_cut_short l = until_of l == l.from && nat_lt l.from (2 + length l.children.now)
 
@@ -161,7 +161,7 @@ pub record AreListed {A : Type 0} (stack : Stacked) (node offset size : ℕ) (wi
   pub from_is : l.from ≡ min offset (2 + length l.children.now)
   pub room_is : l.room ≡ size
 
--- they are listed; none if the number is no directory
+-- they are listed; none if the number is not a directory's
 abbrev pub ListsRows : {A : Type 0} → Stacked → ℕ → ℕ → ℕ → Bool → Option (Listing A) → Type 0
 ListsRows stack node offset size with_entries result =
     MatchOption result (parent_at stack node ≡ None) (AreListed stack node offset size with_entries)

@@ -1,4 +1,4 @@
--- The names of a file's extended attributes, as an answer gives them.
+-- The names of a file's extended attributes, as an answer.
 use Rattle.std.specs.Prelude.{ℕ, List, [], take, slice_get, IsTrue}
 use Rattle.std.specs.Option.{option_map_or, option_to_list}
 use Rattle.romfs_format.specs.Extended.{Extended, is_list, names_of}

@@ -15,7 +15,7 @@ use Rattle.reply_model.specs.Readings.{Sourced, sourced, reading_of}
 use Rattle.reply_model.specs.Balances.{IsMoved}
 use Rattle.fuse_answer.specs.declared.served.Served.{Served}
 
--- the call appends exactly these; or, if the vector has no room for them and gets none, nothing
+-- the call appends exactly these; or, if the vector has no room for them and cannot grow, nothing
 abbrev pub Puts : {X A E : Type 0} → Result (Unit {0}) E → Vec X A → Vec X A → List X → Type 0
 Puts result before after appended =
     OnOk result (after.items ≡ before.items ++ appended)
@@ -23,7 +23,8 @@ Puts result before after appended =
     × OnErr result (vec_capacity before < vec_len before + length appended)
     × (vec_capacity before ≤ vec_capacity after)
 
--- the call appends exactly these; or, if the vector has no room for them and gets none, something
+-- the call appends exactly these; or, if the vector has no room for them and cannot grow, some of
+-- them
 abbrev pub Grows : {X A E : Type 0} → Result (Unit {0}) E → Vec X A → Vec X A → List X → Type 0
 Grows {X = X} result before after appended =
     OnOk result (after.items ≡ before.items ++ appended)
@@ -31,11 +32,11 @@ Grows {X = X} result before after appended =
     × OnErr result (vec_capacity before < vec_len before + length appended)
     × (vec_capacity before ≤ vec_capacity after)
 
--- no move is of more lookups than 64 bits say
+-- no move has more lookups than 64 bits can count
 abbrev pub AreSmall : List Move → Type 0
 AreSmall moves = All (λ m. unsigned_abs m.amount ≤ 2 ^ 64) moves
 
--- the stack of a table, and what its files may give
+-- the stack of a table, and what its files may return
 abbrev pub sourced_by : {A D : Type 0} → (D → Source) → Served A D → Sourced
 sourced_by source served = sourced served.table.now (map source served.files.now)
 
@@ -45,7 +46,7 @@ abbrev pub PutsReply : {E : Type 0} → Sourced → Session → Asked → Result
 PutsReply by s q result before after =
     AppendsTold result before after (reading_of by q) q.unique (reply by.stack s q)
 
--- what a request over a stack moves is appended; or, if there is no room for it, nothing
+-- the lookups that a request over a stack moves are appended; or, if there is no room, none
 abbrev pub PutsMoves : {A E : Type 0} → Stacked → Session → Asked → Result (Unit {0}) E → Vec Move A
     → Vec Move A → Type 0
 PutsMoves stack s q result before after =

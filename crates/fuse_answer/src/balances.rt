@@ -15,7 +15,8 @@ use node_reader::Table;
 use reply_model::add_move;
 use std::alloc::Allocator;
 
-/// Adds what an answer gives and takes to the balances, in which node n has the place n - 1.
+/// Adds the lookups that an answer gives and takes to the balances. The balance of node n is at
+/// index n - 1.
 #[inline(always)]
 pub(crate) fn add_answer_moves<A: Allocator>(
     table: &Table<A>,
@@ -35,7 +36,7 @@ pub(crate) fn add_answer_moves<A: Allocator>(
     }
 }
 
-/// Adds what a row gives, if rows have entries.
+/// Adds the lookups that a row gives, if rows have entries.
 #[inline(always)]
 pub(crate) fn add_row<A: Allocator>(rows: &Listing<'_, A>, index: usize, balances: &mut [i128])
     requires from { rows.now.from ≤ index }
@@ -48,7 +49,7 @@ pub(crate) fn add_row<A: Allocator>(rows: &Listing<'_, A>, index: usize, balance
     }
 }
 
-// Adds what the rows of a listing give.
+// Adds the lookups that the rows of a listing give.
 fn add_rows<A: Allocator>(rows: &Listing<'_, A>, balances: &mut [i128])
     requires whole { IsWhole rows.now }
     requires within { AreWithin (2 ^ 123) balances.old }
@@ -60,8 +61,8 @@ fn add_rows<A: Allocator>(rows: &Listing<'_, A>, balances: &mut [i128])
     }
 }
 
-// Adds what a row with an entry gives: a lookup of its node. The first two, which are `.` and `..`,
-// give nothing.
+// Adds the lookup that a row with an entry gives to its node. The first two rows, `.` and `..`,
+// give none.
 #[inline(always)]
 fn add_entry<A: Allocator>(rows: &Listing<'_, A>, index: usize, balances: &mut [i128])
     requires there { IsRow rows.now index }
@@ -86,7 +87,7 @@ fn take_back<A: Allocator>(table: &Table<A>, forget: Forget, balances: &mut [i12
     }
 }
 
-// Takes back all that is forgotten.
+// Takes back all forgotten lookups.
 #[inline(always)]
 fn take_all_back<A: Allocator>(table: &Table<A>, items: Forgets<'_>, balances: &mut [i128])
     requires { AreWithin (2 ^ 123) balances.old }

@@ -1,5 +1,5 @@
-//! Which answer a request has, or which refusal: the first that fits, in the order of the
-//! protocol's layers.
+//! The answer to a request, or the error that refuses it: the first that applies, in the order of
+//! the protocol's layers.
 
 ghost use Rattle.std.specs.Prelude.{◌≡◌, true, false};
 ghost use Rattle.fuse_wire.specs.Reads.{asked_of, op_said};
@@ -18,7 +18,7 @@ use node_reader::{Guess, Table};
 use reply_model::{Agreement, Session};
 use std::alloc::Allocator;
 
-/// What is decided about a request.
+/// The decision about a request.
 #[inline(always)]
 pub(crate) fn decide<'a, A: Allocator>(
     table: &'a Table<A>,
@@ -37,7 +37,7 @@ pub(crate) fn decide<'a, A: Allocator>(
     }
 }
 
-// A fresh session answers INIT alone.
+// A fresh session answers only INIT.
 #[inline(always)]
 fn begin<'a, A: Allocator>(
     table: &'a Table<A>,
@@ -74,7 +74,8 @@ fn begin<'a, A: Allocator>(
     }
 }
 
-// A session that was begun answers all but INIT, and extended attributes only if some node has one.
+// A session that has begun answers everything except INIT, and extended attributes only if some
+// node has one.
 #[inline(always)]
 fn go_on<'a, A: Allocator>(
     table: &'a Table<A>,
@@ -90,7 +91,7 @@ fn go_on<'a, A: Allocator>(
     answer_served(table, agreed, request, guess)
 }
 
-// Whether extended attributes are asked for, also by a request that is malformed.
+// Whether a request is about extended attributes, even if it is malformed.
 #[inline(always)]
 fn asks_xattrs(op: &Op<'_>) -> bool
     ensures { result ≡ asks_xattrs (op_said op.now) }
@@ -105,7 +106,7 @@ fn asks_xattrs(op: &Op<'_>) -> bool
     )
 }
 
-// The same of what is served.
+// The same for a served request.
 #[inline(always)]
 fn answer_served<'a, A: Allocator>(
     table: &'a Table<A>,

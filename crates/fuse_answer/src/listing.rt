@@ -1,9 +1,9 @@
-//! The rows of a directory that READDIR and READDIRPLUS are answered.
+//! The rows of a directory that answer READDIR and READDIRPLUS.
 //!
-//! Rows have indices from 0 on: `.`, `..`, and then the children. A request is answered with the
-//! rows from its offset on that fit completely in its size. An answer has their start and their
-//! room: the last row is found while they are written, so each is read once, and none before the
-//! offset.
+//! Rows have indices from 0: `.`, `..`, and then the children. The answer to a request has the rows
+//! from its offset on that fit completely in its size. An answer holds their start and their room:
+//! the last row is found while they are written, so each is read once, and no row before the offset
+//! is read.
 
 ghost use Rattle.std.specs.Prelude.{◌≡◌, ◌≤◌, ◌<◌, ◌+◌, length, min, slice_index};
 ghost use Rattle.fuse_wire.specs.declared.limits.TheConstants.{MAX_DATA_SIZE};
@@ -68,7 +68,7 @@ pub(crate) fn count<A: Allocator>(children: &[Row<A>]) -> usize
     2 + children.len()
 }
 
-/// Whether there is a row with this index, and room for it.
+/// Whether a row with this index exists, and there is room for it.
 #[inline(always)]
 pub(crate) fn fits<A: Allocator>(rows: &Listing<'_, A>, index: usize, room: usize) -> bool
     requires { room ≤ MAX_DATA_SIZE }
@@ -100,7 +100,8 @@ pub(crate) fn fit<A: Allocator>(rows: &Listing<'_, A>) -> (usize, usize)
     (until, rows.room - room)
 }
 
-// The rows after the first `offset` ones that fit in the size; none if the number is no directory.
+// The rows after the first `offset` ones that fit in the size; none if the number is not a
+// directory's.
 #[inline(always)]
 fn listed<'a, A: Allocator>(
     table: &'a Table<A>,
@@ -125,7 +126,7 @@ fn listed<'a, A: Allocator>(
     })
 }
 
-// Whether there is a row, and not even one fits.
+// Whether a row remains, but not even one fits in the room.
 #[inline(always)]
 fn is_too_small<A: Allocator>(rows: &Listing<'_, A>) -> bool
     requires { IsWhole rows.now }
@@ -134,7 +135,7 @@ fn is_too_small<A: Allocator>(rows: &Listing<'_, A>) -> bool
     rows.from < count(rows.children) && !fits(rows, rows.from, rows.room)
 }
 
-// The index of the first row after `offset` ones, or after all.
+// The index of the row after the first `offset` ones, or the index after the last row.
 #[inline(always)]
 fn start<A: Allocator>(offset: u64, children: &[Row<A>]) -> usize
     ensures { result ≡ min offset (2 + length children.now) }
@@ -163,7 +164,7 @@ fn name_length<A: Allocator>(children: &[Row<A>], index: usize) -> usize
     }
 }
 
-// The bytes of a row whose name has this many, if there is room for them.
+// The size of a row whose name has this many bytes, if there is room for them.
 #[inline(always)]
 fn row_size(with_entries: bool, name_length: usize, room: usize) -> Option<usize>
     requires { room ≤ MAX_DATA_SIZE }

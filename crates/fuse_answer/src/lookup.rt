@@ -14,9 +14,9 @@ use reply_model::Agreement;
 use romfs_format::Kind;
 use std::alloc::Allocator;
 
-/// What LOOKUP is answered. In a session with `FUSE_EXPORT_SUPPORT` the name `.` finds the node
-/// itself, of any kind, and `..` the directory above. Lastingly, that a name finds nothing is no
-/// error.
+/// The answer to LOOKUP. In a session with `FUSE_EXPORT_SUPPORT` the name `.` finds the node
+/// itself, of any kind, and `..` its parent directory. In a lasting session, the answer to a name
+/// that does not exist is a negative entry, not an error.
 #[inline(always)]
 pub(crate) fn look_up<'a, A: Allocator>(
     table: &'a Table<A>,
@@ -52,7 +52,7 @@ fn is_itself(export: bool, name: &[u8]) -> bool
     export && name == b".".as_slice()
 }
 
-// Whether a name finds the directory above.
+// Whether a name finds the parent directory.
 #[inline(always)]
 fn is_parent(export: bool, name: &[u8]) -> bool
     ensures { result ≡ is_parent export name.now }
@@ -60,7 +60,7 @@ fn is_parent(export: bool, name: &[u8]) -> bool
     export && name == b"..".as_slice()
 }
 
-// The number that a name finds below a directory.
+// The number that a name has in a directory.
 #[inline(always)]
 fn found<A: Allocator>(
     table: &Table<A>,
@@ -78,7 +78,7 @@ fn found<A: Allocator>(
     }
 }
 
-// The entry of a node, whose number is in use: the other case never comes.
+// The entry of a node, whose number is in use: the other case never occurs.
 #[inline(always)]
 fn entry<'a, A: Allocator>(table: &'a Table<A>, number: u64) -> Result<Answer<'a, A>, Errno>
     ensures { TellsEntry table.now number result }

@@ -1,8 +1,8 @@
 //! The lookups that a request gives and takes, as a list.
 //!
-//! The traversal is that of `balances`, which adds in place and cannot fail. Here memory may be
-//! refused at each move: one traversal for both would bring that outcome, with its promise, into
-//! the path of each reply.
+//! The traversal is that of `balances`, which adds in place and cannot fail. Here each move may be
+//! refused memory: a traversal shared by both would bring that outcome, and its promise, into the
+//! path of every reply.
 
 ghost use Rattle.std.specs.Prelude.{◌≤◌, ◌<◌, ◌+◌, ◌^◌, ◌∷◌, [], length, unsigned_abs};
 ghost use Rattle.fuse_wire.specs.Reads.{asked_of, items_of};
@@ -20,12 +20,12 @@ use node_reader::{Guess, Table};
 use reply_model::{Move, Session};
 use std::alloc::{AllocError, Allocator};
 
-/// Appends what a request gives and takes, in order: one lookup for the entry of a LOOKUP and for
-/// each row of a READDIRPLUS but `.` and `..`, and what FORGET and BATCH_FORGET take back. Numbers
-/// that are not in use, and requests that are refused, change nothing.
+/// Appends the lookups that a request gives and takes, in order: one for the entry of a LOOKUP and
+/// for each row of a READDIRPLUS except `.` and `..`, and those that FORGET and BATCH_FORGET take
+/// back. Numbers that are not in use, and refused requests, change nothing.
 ///
-/// The session is the one before the request. `AllocError` only if the vector had no room for the
-/// moves and got none; it is then unchanged. No amount has more than 64 bits.
+/// `session` is the one before the request. `AllocError` only if the vector has no room for the
+/// moves and cannot grow; it is then unchanged. No amount has more than 64 bits.
 pub fn moves<A: Allocator, M: Allocator>(
     table: &Table<A>,
     session: Session,
@@ -46,7 +46,7 @@ pub fn moves<A: Allocator, M: Allocator>(
     grown
 }
 
-// Appends what an answer gives and takes, or some of it if memory is refused.
+// Appends the lookups that an answer gives and takes, or some of them if memory is refused.
 fn grow<A: Allocator, M: Allocator>(
     table: &Table<A>,
     answer: &Answer<'_, A>,
@@ -65,7 +65,7 @@ fn grow<A: Allocator, M: Allocator>(
     }
 }
 
-// Appends what the rows of a READDIRPLUS give.
+// Appends the lookups that the rows of a READDIRPLUS give.
 fn grow_rows<A: Allocator, M: Allocator>(
     rows: &Listing<'_, A>,
     into: &mut Vec<Move, M>,
@@ -81,8 +81,7 @@ fn grow_rows<A: Allocator, M: Allocator>(
     Ok(())
 }
 
-// Appends what a row gives: a lookup of its node. The first two, which are `.` and `..`, give
-// nothing.
+// Appends the lookup that a row gives to its node. The first two rows, `.` and `..`, give none.
 fn put_given<A: Allocator, M: Allocator>(
     rows: &Listing<'_, A>,
     index: usize,
@@ -101,7 +100,7 @@ fn put_given<A: Allocator, M: Allocator>(
     }
 }
 
-// Appends what is taken back from a node, if the number is in use.
+// Appends the lookups taken back from a node, if the number is in use.
 fn put_taken<A: Allocator, M: Allocator>(
     table: &Table<A>,
     forget: Forget,
@@ -117,7 +116,7 @@ fn put_taken<A: Allocator, M: Allocator>(
     }
 }
 
-// Appends what is taken back of all items.
+// Appends the lookups that all items take back.
 fn grow_taken<A: Allocator, M: Allocator>(
     table: &Table<A>,
     items: Forgets<'_>,

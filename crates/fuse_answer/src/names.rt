@@ -1,4 +1,4 @@
-//! The names of a file's extended attributes, as a reply.
+//! The reply with the names of a file's extended attributes.
 
 ghost use Rattle.std.specs.Prelude.{◌≡◌, ◌≤◌, ◌+◌, ◌++◌, ◌∷◌, [], length, MatchOption};
 ghost use Rattle.romfs_format.specs.declared.limits.TheConstants.{MAX_XATTR_LIST_SIZE};
@@ -13,7 +13,7 @@ use node_reader::is_acl_name;
 use std::alloc::{AllocError, Allocator};
 
 impl<'a> Names<'a> {
-    /// How many bytes they are, each with its zero byte.
+    /// Their length in bytes, each name with its zero byte.
     pub(crate) fn len(&self) -> u32
         requires { AreAllowed self.now }
         ensures value { result ≡ length (names_said self.now) }
@@ -36,7 +36,7 @@ impl<'a> Names<'a> {
         }
     }
 
-    // How many bytes the name at a position is, with its zero byte.
+    // The length in bytes of the name at a position, with its zero byte.
     fn len_at(&self, position: u32) -> u32
         requires { AreAllowed self.now }
         ensures { result ≡ length (said_at self.now position) }
@@ -77,7 +77,7 @@ pub(crate) fn put_names<O: Allocator>(
     Ok(())
 }
 
-// Appends the names, for which there is room.
+// Appends the names; there is room for them.
 fn put_all<O: Allocator>(out: &mut Replies<O>, names: &Names<'_>)
     requires { length out.old.items + length (names_said names.now) ≤ out.old.room }
     ensures items { out.new.items ≡ out.old.items ++ names_said names.now }

@@ -14,7 +14,7 @@ use reply_model::Agreement;
 use romfs_format::Kind;
 use std::alloc::Allocator;
 
-/// What GETATTR is answered.
+/// The answer to GETATTR.
 #[inline(always)]
 pub(crate) fn get_attr<'a, A: Allocator>(
     table: &'a Table<A>,
@@ -29,7 +29,7 @@ pub(crate) fn get_attr<'a, A: Allocator>(
     }
 }
 
-/// What READLINK is answered.
+/// The answer to READLINK.
 #[inline(always)]
 pub(crate) fn read_link<'a, A: Allocator>(
     table: &'a Table<A>,
@@ -47,8 +47,8 @@ pub(crate) fn read_link<'a, A: Allocator>(
     }
 }
 
-/// The answer to OPEN: the access mode is the lowest two bits of the flags. A client that need not
-/// ask learns so last.
+/// The answer to OPEN. The access mode is the lowest two bits of the flags. A client that need not
+/// send OPEN gets `ENOSYS`, if no other error comes first.
 #[inline(always)]
 pub(crate) fn open_file<'a, A: Allocator>(
     table: &'a Table<A>,
@@ -67,7 +67,8 @@ pub(crate) fn open_file<'a, A: Allocator>(
     }
 }
 
-/// The answer to OPENDIR. A client that need not ask learns so last.
+/// The answer to OPENDIR. A client that need not send OPENDIR gets `ENOSYS`, if no other error
+/// comes first.
 #[inline(always)]
 pub(crate) fn open_directory<'a, A: Allocator>(
     table: &'a Table<A>,
@@ -83,8 +84,8 @@ pub(crate) fn open_directory<'a, A: Allocator>(
     }
 }
 
-/// What READ is answered: the bytes from the offset on, at most as many as the size, up to the
-/// file's end.
+/// The answer to READ: the bytes from the offset on, at most as many as the size, up to the end of
+/// the file.
 #[inline(always)]
 pub(crate) fn read<'a, A: Allocator>(
     table: &'a Table<A>,
@@ -120,7 +121,7 @@ pub(crate) fn kind_of<A: Allocator>(table: &Table<A>, number: u64) -> Result<Kin
     }
 }
 
-// The flags of a directory that is opened.
+// The flags of an opened directory.
 #[inline(always)]
 fn opendir_flags(lasting: bool) -> u32
     ensures { result ≡ opendir_flags lasting }
@@ -132,7 +133,7 @@ fn opendir_flags(lasting: bool) -> u32
     }
 }
 
-// How many bytes of a file there are from the offset on, at most as many as the size.
+// How many bytes a file has from the offset on, at most as many as the size.
 #[inline(always)]
 fn part_len(file_len: u32, offset: u64, size: u32) -> u32
     ensures { result ≡ min size (file_len - offset) }

@@ -1,4 +1,4 @@
-//! What a request is answered, before it is written.
+//! The answer to a request, before it is written.
 
 use crate::listing::Listing;
 use fuse_wire::forget::{Forget, Forgets};
@@ -11,9 +11,9 @@ use std::alloc::Allocator;
 pub(crate) struct FilePart<'a> {
     /// The file.
     pub node: &'a Node,
-    /// How many of its bytes precede them.
+    /// Their offset in its data.
     pub offset: u64,
-    /// How many they are.
+    /// Their count.
     pub len: u32,
 }
 
@@ -22,30 +22,30 @@ pub(crate) struct FilePart<'a> {
 pub(crate) struct Names<'a> {
     /// The attributes, if it has any.
     pub list: Option<FileXattrs<'a>>,
-    /// Whether the client gets those of access control lists, too.
+    /// Whether the client also gets the names of access control lists.
     pub acls: bool,
 }
 
-/// What a request is answered that is not refused.
+/// The answer to a request that is not refused.
 #[derive(Drop)]
 pub(crate) enum Answer<'a, A: Allocator> {
     /// A reply without data.
     Done,
     /// The terms of a session.
     Terms(InitOut),
-    /// A node that was found.
+    /// The entry of a node that was found.
     Entry(Attr),
-    /// A name that is none.
+    /// No entry has the name.
     NoEntry,
     /// A node's attributes.
     Attributes(Attr),
-    /// A file or directory that was opened, with these flags.
+    /// A file or directory is opened, with these flags.
     Opened(u32),
-    /// The target of this link.
+    /// The target of a symbolic link.
     Target(&'a Node),
     /// Bytes of a file.
     Data(FilePart<'a>),
-    /// How long an extended attribute is, or the list of their names.
+    /// The length of an extended attribute, or of the list of their names.
     Size(u32),
     /// The value of an extended attribute.
     Value(&'a [u8]),

@@ -1,4 +1,4 @@
-//! One request's reply.
+//! The reply to one request.
 
 ghost use Rattle.fuse_wire.specs.Reads.{asked_of, op_said};
 ghost use Rattle.reply_model.specs.Moves.{moves};
@@ -32,8 +32,8 @@ struct InSession<'r, 'b> {
 /// header with the data of the answer, or with the error that refuses the request. Data in a file
 /// are read into the reply, which is EIO if they cannot be read in full.
 ///
-/// The session is the one before the request ([`after`](crate::after) says the next). `AllocError`
-/// only if there was no room for the reply and none was got; nothing changed then.
+/// `session` is the one before the request; [`after`](crate::after) returns the next. `AllocError`
+/// only if there is no room for the reply and memory is refused; nothing changes then.
 pub fn answer<A: Allocator, D: Contents, O: Allocator>(
     served: Served<'_, A, D>,
     session: Session,
@@ -47,13 +47,14 @@ pub fn answer<A: Allocator, D: Contents, O: Allocator>(
     tell(served, session, request, &decided, out)
 }
 
-/// Appends the reply to a request, as [`answer`] does, and adds what the request gives and takes to
-/// the balances of the nodes, in which node n has the place n - 1. It looks the request up once.
+/// Appends the reply to a request, as [`answer`] does, and adds the lookups that the request gives
+/// and takes to the balances of the nodes; the balance of node n is at index n - 1. It looks the
+/// request up once.
 ///
-/// A right guess of the row that a LOOKUP finds ([`Table::guess`]) makes it faster, and changes
-/// nothing else.
+/// A right guess of the row that a LOOKUP finds ([`Table::guess`]) makes it faster; no guess
+/// changes the result.
 ///
-/// `AllocError` only if there was no room for the reply and none was got; the replies and the
+/// `AllocError` only if there is no room for the reply and memory is refused; the replies and the
 /// balances are then unchanged.
 #[inline(always)]
 pub fn answer_and_move<A: Allocator, D: Contents, O: Allocator>(
@@ -88,9 +89,9 @@ pub fn answer_and_move<A: Allocator, D: Contents, O: Allocator>(
     }
 }
 
-// The same. It is laid out anew at each call: for the requests that are asked most there is code of
-// their own, in which nothing is left of what other requests are answered. By one call of it a
-// million GETATTRs took 114 ms of processor in place of 51, and LOOKUPs 245 in place of 205.
+// The same, inlined at each call: the most frequent requests get code of their own, without the
+// branches for other requests. With one shared copy, a million GETATTRs took 114 ms of processor
+// time instead of 51, and a million LOOKUPs 245 instead of 205.
 #[inline(always)]
 fn settle<A: Allocator, D: Contents, O: Allocator>(
     served: Served<'_, A, D>,
@@ -111,8 +112,8 @@ fn settle<A: Allocator, D: Contents, O: Allocator>(
         guess,
     } = asked;
     let decided = decide(served.table, session, request, guess);
-    // rows are added to balances as they are put; no request without a reply has any, which nothing
-    // says here
+    // adds the rows to the balances as they are appended; a request without a reply has no rows,
+    // which no clause here says
     if let Ok(Answer::Rows(rows)) = &decided {
         if !is_silent(&request.op) {
             return put_rows_and_move(served.table, request.unique, rows, out, balances);
@@ -125,7 +126,7 @@ fn settle<A: Allocator, D: Contents, O: Allocator>(
     Ok(())
 }
 
-// Appends the reply to a request on which this was decided.
+// Appends the reply that carries out this decision.
 #[inline(always)]
 fn tell<A: Allocator, D: Contents, O: Allocator>(
     served: Served<'_, A, D>,
@@ -147,7 +148,7 @@ fn tell<A: Allocator, D: Contents, O: Allocator>(
     }
 }
 
-// Whether a request has no reply, whatever is decided.
+// Whether a request has no reply, whatever the decision.
 #[inline(always)]
 fn is_silent(op: &Op<'_>) -> bool
     ensures { result ≡ is_silent (op_said op.now) }

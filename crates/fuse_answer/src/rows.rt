@@ -18,13 +18,13 @@ use fuse_wire::{
 use node_reader::Table;
 use std::alloc::{AllocError, Allocator};
 
-/// The names of the first two rows, with zeros behind them.
+/// The names of the first two rows, followed by zeros.
 const DOT: &[u8; 22] = b".\0\0\0\0\0\0\0\0\0\0\0\0\0\0\0\0\0\0\0\0\0";
 
 const DOTS: &[u8; 22] = b"..\0\0\0\0\0\0\0\0\0\0\0\0\0\0\0\0\0\0\0\0";
 
 /// Appends the reply with a directory's rows, in one growth: once there is room for it, nothing
-/// fails. What they give is added to the balances, as each is put.
+/// fails. The lookup that a row gives is added to the balances when the row is appended.
 #[inline(never)]
 pub(crate) fn put_rows_and_move<A: Allocator, O: Allocator>(
     table: &Table<A>,
@@ -80,8 +80,8 @@ fn make_room<A: Allocator, O: Allocator>(
     Ok(())
 }
 
-// Appends the rows, if there is room for them, and adds what they give: up to the first that does
-// not fit in the rest of the listing's room, or to the last.
+// Appends the rows, if there is room for them, and adds the lookups that they give: up to the first
+// row that does not fit in the rest of the listing's room, or to the last.
 #[inline(always)]
 fn put_listed<A: Allocator, O: Allocator>(
     table: &Table<A>,
@@ -111,7 +111,7 @@ fn put_listed<A: Allocator, O: Allocator>(
 }
 
 // Appends the row of READDIRPLUS with this index if its name is short and the replies then have at
-// most this many bytes. Otherwise, or without room, it is false, and nothing is appended.
+// most this many bytes. Otherwise, or without room, returns false and appends nothing.
 #[inline(always)]
 fn put_short<A: Allocator, O: Allocator>(
     table: &Table<A>,

@@ -1,4 +1,4 @@
-//! When a session begins and ends.
+//! How a session begins and ends.
 
 ghost use Rattle.std.specs.Prelude.{◌≡◌};
 ghost use Rattle.fuse_wire.specs.Reads.{op_said};
@@ -8,7 +8,7 @@ use fuse_wire::flags::{has_acl, has_export, has_no_open, has_no_opendir};
 use fuse_wire::{Op, Request};
 use reply_model::{Agreement, Session};
 
-/// The session after a request: an INIT of a version that is spoken begins it, and DESTROY ends it
+/// The session after a request: an INIT of a supported version begins it, and DESTROY ends it
 /// (linux/fuse.h, `FUSE_INIT` and `FUSE_DESTROY`).
 pub fn after(session: Session, request: &Request<'_>) -> Session
     ensures { result ≡ session_after session (op_said request.now.op) }
@@ -41,14 +41,14 @@ pub fn after(session: Session, request: &Request<'_>) -> Session
     }
 }
 
-/// Whether a session is begun with this version.
+/// Whether this version begins a session.
 pub(crate) fn is_spoken(major: u32, minor: u32) -> bool
     ensures { result ≡ is_spoken major minor }
 {
     major == 7 && 12 <= minor
 }
 
-/// What is agreed on in a session.
+/// The terms of a session.
 pub(crate) fn agreement_of(session: Session) -> Agreement
     ensures { result ≡ agreement_of session }
 {

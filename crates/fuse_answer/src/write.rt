@@ -1,4 +1,4 @@
-//! Answers as replies.
+//! Answers written as replies.
 
 ghost use Rattle.fuse_wire.specs.Replies.{reply_with};
 ghost use Rattle.std.specs.Prelude.{◌≡◌, ◌+◌, ◌≤◌};
@@ -112,7 +112,7 @@ fn put_target<A: Allocator, O: Allocator>(
     put_held(table, unique, node, 0, node.part.len, out)
 }
 
-// Appends the reply with some of a node's data, as the table's image of its layer has them.
+// Appends the reply with some of a node's data, from the table's image of its layer.
 #[inline(always)]
 fn put_held<A: Allocator, O: Allocator>(
     table: &Table<A>,
@@ -130,7 +130,7 @@ fn put_held<A: Allocator, O: Allocator>(
     let Some(view) = table.view(node.place.layer as usize) else {
         return put_data(out, unique, &[]);
     };
-    // no part ends beyond what a u32 says, since no image does
+    // no part ends beyond the maximum of a u32, since no image does
     let _full = view.full();
     let start = node.part.start + offset;
     match view.part(Part { start, len }) {

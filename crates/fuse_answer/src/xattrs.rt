@@ -16,8 +16,8 @@ use node_reader::{Table, is_acl_name};
 use reply_model::Agreement;
 use std::alloc::Allocator;
 
-/// What GETXATTR is answered: the value, or with the size 0 how long it is. Access control lists
-/// are only for clients that enforce them.
+/// The answer to GETXATTR: the value, or its length if the size is 0. Only clients that enforce
+/// access control lists get them.
 pub(crate) fn get_xattr<'a, A: Allocator>(
     table: &'a Table<A>,
     agreed: Agreement,
@@ -39,7 +39,7 @@ pub(crate) fn get_xattr<'a, A: Allocator>(
     by_size(size, value.len() as u32, Answer::Value(value))
 }
 
-/// What LISTXATTR is answered: the names, or with the size 0 how many bytes they are.
+/// The answer to LISTXATTR: the names, or their length if the size is 0.
 pub(crate) fn list_xattrs<'a, A: Allocator>(
     table: &'a Table<A>,
     agreed: Agreement,
@@ -56,7 +56,8 @@ pub(crate) fn list_xattrs<'a, A: Allocator>(
     by_size(size, len, Answer::Names(names))
 }
 
-// With the size 0 how many bytes an answer has, and otherwise the answer, unless it has more.
+// The length of an answer if the size is 0; otherwise the answer, unless it is longer than the
+// size.
 fn by_size<'a, A: Allocator>(
     size: u32,
     len: u32,

@@ -1,6 +1,5 @@
--- What bytes begin with, off the length that their first four say: `framed` are the cases, and
--- `one_frame`, the main lemma, says that only one fits. `split_first` and `split_none` say that
--- framing again and again splits a stream, `whole_stays` that later bytes change nothing.
+-- What bytes begin with, from the length in their first four: `framed` are the cases, and `one_frame`, the main lemma, says that only one
+-- fits. `split_first` and `split_none` say that repeated framing splits a stream, `whole_stays` that later bytes change nothing.
 use Rattle.std.proofs.Common.{◌≡◌, ◌∙◌, sym, ap, subst, ℕ, ◌<◌, ◌≤◌, inl, inr, List, [], ◌∷◌, ◌++◌, length, take, drop, refl, arith, append_assoc}
 use Rattle.std.proofs.lemmas.List.{take-append-drop, length-take-le, take_at}
 use Rattle.fuse_wire.specs.declared.framing.Framed.{Framed}
@@ -100,7 +99,7 @@ whole_stays bytes y n b = record {
   sized = b.sized;
 }
 
--- how a stream goes on that was cut somewhere
+-- how a stream that was cut somewhere continues
 pub ruleset pieces = (split_goes_on, bad_stays, whole_stays)
 
 -- what frames bytes, and how the frames of a stream are its split

@@ -1,6 +1,5 @@
--- Which bodies are too short, how long replies and rows are, and how many nodes a message forgets.
--- `needs` says what `body_sizes` then lists of each opcode; the sizes of replies are those of
--- `Sizes`.
+-- Which bodies are too short, how long replies and rows are, and how many nodes a message forgets. `needs` says for one opcode what
+-- `body_sizes` lists for all; the sizes of replies are those of `Sizes`.
 use Rattle.std.proofs.Common.{◌≡◌, ◌≢◌, ◌∙◌, sym, ap, ℕ, ◌+◌, ◌/◌, ◌≤◌, List, length, drop, min, Bool, true, false, cond, refl, arith, length-drop}
 use Rattle.std.specs.Prelude.{nat_lt}
 use Rattle.std.proofs.lemmas.Bool.{lt-ltb, le-ltb}
@@ -23,7 +22,7 @@ needs opcode n op is good = record {
   whole = λ body l e. good body (sym (is body ∙ ap (λ b. cond b (malformed opcode) (op body)) (le-ltb (length body) n l)) ∙ e);
 }
 
--- an opcode with a structure is malformed exactly where its body is shorter than that
+-- an opcode with a structure is malformed exactly if its body is shorter than that
 pub body_sizes : BodySizes
 unfolding op_of
 body_sizes = record {

@@ -1,5 +1,5 @@
--- Whether a flag is set, by its mask and by its place. The code masks the flags of an INIT, and the
--- definitions ask for the bit at a place; each lemma says of one flag that both are the same.
+-- Whether a flag is set, by its mask and by its place. The code masks the flags of an INIT, and the definitions take the bit at a place;
+-- each lemma says for one flag that both are the same.
 use Rattle.std.proofs.Common.{◌≡◌, ℕ, ◌*◌, ◌/◌, ◌%◌, bit_and}
 use Rattle.std.proofs.lemmas.Nat.Bits.{and_pow}
 

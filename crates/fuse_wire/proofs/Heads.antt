@@ -1,13 +1,12 @@
--- A reply is set over the bytes that are kept, of which the replies are the first: its header and
--- its data, one after another (`reply_set`), or its header alone, once its data stand behind the
--- place of the header (`header_set`).
+-- A reply is set over the kept bytes that begin with the replies: its header and its data, one after another (`reply_set`), or only its
+-- header, once its data follow the place of the header (`header_set`).
 use Rattle.std.proofs.Common.{◌≡◌, ◌∙◌, sym, ap, ℕ, ◌+◌, ◌-◌, ◌≤◌, List, [], ◌++◌, length, take, drop, arith, append-nil, append_assoc, length-append, length-take-le}
 use Rattle.std.proofs.lemmas.List.{drop-drop, drop-take, drop_all, length-drop, take_all, take-take}
 use Rattle.std.proofs.Math.Seq.{take-append-add}
 use Rattle.fuse_wire.specs.Replies.{reply_head, reply_with}
 use Rattle.fuse_wire.proofs.Sizes.{length-head}
 
--- bytes with others in place of this many from a place on
+-- bytes with others instead of this many from a place on
 abbrev replaced : ℕ → ℕ → List ℕ → List ℕ → List ℕ
 replaced start n new bytes = take start bytes ++ (new ++ drop n (drop start bytes))
 
@@ -50,7 +49,7 @@ header_set unique len start n all kept lent items new lent_is items_is few all_i
     ∙ ap (λ k. take start kept ++ (reply_head unique k ++ drop (start + 16) items)) size
     ∙ ap (λ v. take start kept ++ (head ++ v)) following)
 
--- a header is set behind the replies, and data behind it
+-- a header is set after the replies, and data after it
 pub reply_set : (unique n end all len at : ℕ) (bytes items before kept lent first new : List ℕ) → before ≡ items → take len kept ≡ before
     → lent ≡ kept → take at first ≡ take len lent ++ reply_head unique n → take end new ≡ take at first ++ bytes
     → length new ≡ length kept → all ≡ length kept → length bytes ≡ n

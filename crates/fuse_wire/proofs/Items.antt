@@ -1,6 +1,5 @@
--- The items of a BATCH_FORGET, by the bytes in which they stand. The code keeps the bytes of the
--- items that count: that these read as the same items is `whole_items`, the main lemma, which rests
--- on `front_items`. `first_item` is a step from item to item.
+-- The items of a BATCH_FORGET, by the bytes that hold them. The code keeps the bytes of the items that count: that these read as the same
+-- items is `whole_items`, the main lemma, which uses `front_items`. `first_item` is a step from item to item.
 use Rattle.std.proofs.Common.{◌≡◌, ◌∙◌, sym, ap, ℕ, zero, suc, ◌+◌, ◌*◌, ◌/◌, ◌≤◌, List, ◌∷◌, length, take, drop, min, refl, arith, length-drop}
 use Rattle.std.proofs.lemmas.List.{drop-take, length-take-le}
 use Rattle.byteorder.specs.Numbers.{little_from-take}

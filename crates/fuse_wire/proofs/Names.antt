@@ -1,6 +1,6 @@
--- The name of a LOOKUP. The definition cuts the body at its first zero byte; the code looks at the
--- last byte, and from there back for another zero, as far as into the header. `ended`, `unended`
--- and `broken` are the three kinds of bodies, `named` what the search says of each.
+-- The name of a LOOKUP. The definition cuts the body at its first zero byte; the code looks at the last byte, and from there back for
+-- another zero, even into the header. `ended`, `unended` and `broken` are the three kinds of bodies, `named` what the search says about
+-- each.
 use Rattle.std.proofs.Common.{◌≡◌, ◌≢◌, ◌∙◌, sym, ap, subst, ℕ, suc, ◌+◌, ◌-◌, ◌<◌, ◌≤◌, inl, inr, List, [], ◌∷◌, length, take, drop, get_or, refl, arith, Option, Some, None, Bool, true, false, not, cond, ◌==◌, length-drop}
 use Rattle.std.specs.List.{position_or_len}
 use Rattle.std.specs.Option.{option_map}
@@ -11,7 +11,7 @@ use Rattle.std.proofs.lemmas.List.Sums.{position_or_len_is, fails_before_first}
 use Rattle.memchr.specs.Find.{IsLastByte, is_byte}
 use Rattle.fuse_wire.specs.Requests.{cut_at_zero, body_name}
 
--- how many bytes stand before the first zero byte
+-- how many bytes precede the first zero byte
 abbrev before : List ℕ → ℕ
 before body = position_or_len (λ byte. byte == 0) body
 
@@ -112,7 +112,7 @@ broken body e k z low last =
     sym (ap body_name (cut_at body (omega (arith, f))) ∙ unnamed (take (before body) body) (drop (before body + 1) body) (let l =
     length-drop (before body + 1) body in omega (arith, f)))
 
--- the search through a message, whose body stands behind the first h bytes
+-- the search through a message, whose body follows the first h bytes
 module _ (message body : List ℕ) (h e : ℕ) (rest : body ≡ drop h message) (last : e + 1 ≡ length body) where
   abbrev searched : List ℕ
   searched = take (h + e) message
@@ -130,7 +130,7 @@ module _ (message body : List ℕ) (h e : ℕ) (rest : body ≡ drop h message) 
   clear_some : (p : ℕ) → IsLastByte (is_byte 0) searched (Some p) → p < h → Clear body e
   clear_some p found low k l z = found.0.after (h + k) (omega arith) (omega (arith, long)) (ap (λ v. v == 0) (same k l ∙ z))
 
-  -- where the last zero byte found stands in the body, the body has no name
+  -- if the last zero byte found is in the body, the body has no name
   pub name_holds_zero : (p : ℕ) → IsLastByte (is_byte 0) (take (h + e) message) (Some p) → h ≤ p → None ≡ body_name (cut_at_zero body)
   name_holds_zero p found high =
       let high_end = found.0.high in
@@ -138,21 +138,21 @@ module _ (message body : List ℕ) (h e : ℕ) (rest : body ≡ drop h message) 
       let there : h + (p - h) ≡ p = omega arith in
       broken body e (p - h) (sym (same (p - h) below) ∙ ap (λ v. get_or searched v 0) there ∙ eqb-true _ _ found.1) below last
 
-  -- where no zero byte is found and the last byte is zero, the name is all before that byte
+  -- if no zero byte is found and the last byte is zero, the name is all before that byte
   pub name_ends_none : IsLastByte (is_byte 0) (take (h + e) message) None → get_or body e 0 ≡ 0 → 0 < e
       → Some (take e body) ≡ body_name (cut_at_zero body)
   name_ends_none none z some = ended body e (clear_none none) z some last
 
-  -- the name is all before the last byte, which is zero, also where one is found in the header
+  -- the name is all before the last byte, which is zero, also if one is found in the header
   pub name_ends_some : (p : ℕ) → IsLastByte (is_byte 0) (take (h + e) message) (Some p) → p < h → get_or body e 0 ≡ 0 → 0 < e
       → Some (take e body) ≡ body_name (cut_at_zero body)
   name_ends_some p found low z some = ended body e (clear_some p found low) z some last
 
-  -- where no zero byte is found and the last byte is none either, the body has no name
+  -- if no zero byte is found and the last byte is none either, the body has no name
   pub name_open_none : IsLastByte (is_byte 0) (take (h + e) message) None → get_or body e 0 ≢ 0 → None ≡ body_name (cut_at_zero body)
   name_open_none none other = unended body e (clear_none none) other last
 
-  -- the body has no name where its last byte is not zero, also where one is found in the header
+  -- the body has no name if its last byte is not zero, also if one is found in the header
   pub name_open_some : (p : ℕ) → IsLastByte (is_byte 0) (take (h + e) message) (Some p) → p < h → get_or body e 0 ≢ 0
       → None ≡ body_name (cut_at_zero body)
   name_open_some p found low other = unended body e (clear_some p found low) other last

@@ -1,6 +1,5 @@
--- The zeros behind a name. The code takes them from eight zeros, or writes eight and cuts them, or
--- sets a name with zeros up to 24 bytes and cuts these; all leave the zeros of the definition
--- (`padding_is`, `cut_to`, `cut_name`).
+-- The zeros after a name. The code takes them from eight zeros, or writes eight and cuts them, or sets a name with zeros up to 24 bytes and
+-- cuts these; all leave the zeros of the definition (`padding_is`, `cut_to`, `cut_name`).
 use Rattle.std.proofs.Common.{◌≡◌, ◌∙◌, sym, ap, ℕ, zero, suc, ◌+◌, ◌-◌, ◌≤◌, List, ◌∷◌, ◌++◌, length, take, append_assoc, refl, arith}
 use Rattle.std.proofs.Math.Seq.{take-append-add}
 use Rattle.std.specs.Prelude.{replicate}
@@ -16,7 +15,7 @@ pub padding_is : (n : ℕ) → n ≤ 8 → take n (replicate 8 0) ≡ zeros n
 unfolding zeros
 padding_is n l = take_copies n 8 0 l
 
--- eight zeros behind a list, cut to n
+-- eight zeros after a list, cut to n
 pub cut_to : (xs : List ℕ) (n : ℕ) → n ≤ 8 → take (length xs + n) (xs ++ replicate 8 0) ≡ xs ++ zeros n
 cut_to xs n l = take-append-add xs (replicate 8 0) n ∙ ap (λ v. xs ++ v) (padding_is n l)
 

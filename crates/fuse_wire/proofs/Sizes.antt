@@ -1,6 +1,5 @@
--- The sizes of structures, in bytes, each by counting its fields: `sizes` are all of them, by which
--- the writers say how long a reply will be. Rows add the length of a name. `plus_row_is` says that
--- a row of READDIRPLUS may be written in parts.
+-- The sizes of structures, in bytes, each by counting its fields: `sizes` are all of them, from which the writers know how long a reply
+-- will be. Rows add the length of a name. `plus_row_is` says that a row of READDIRPLUS may be written in parts.
 use Rattle.std.proofs.Common.{◌≡◌, ◌∙◌, ap, ℕ, zero, suc, ◌+◌, ◌-◌, List, ◌++◌, length, append_assoc, Bool, true, false, Option, Some, None, cond, refl, arith, length-append}
 use Rattle.std.specs.Prelude.{nat_lt, replicate, bit_and}
 use Rattle.std.specs.Option.{option_map_or}
@@ -37,7 +36,7 @@ pub length-init_out_22 : (readahead flags : ℕ) → length (init_out_22 readahe
 unfolding init_out_22 u16 u32
 length-init_out_22 readahead flags = refl
 
--- INIT's terms have 24 bytes for clients of minor versions below 23, else 64
+-- INIT's terms have 24 bytes for clients of minor versions below 23, otherwise 64
 pub length-terms : (lasting acls : Bool) (minor readahead flags : ℕ) → length (init_out (Terms lasting acls minor readahead flags))
     ≡ cond (nat_lt minor 23) 24 64
 unfolding init_out init_out_22 init_out_rest u16 u32 zeros

@@ -1,6 +1,6 @@
--- A stream is split in one way (`one_split`), and there is one (`some_split`); a split goes on
--- where it stopped (`split_goes_on`). Later bytes do not change the length that the first four say
--- (`said_more`), so what begins with a message is no rest; `first_cut` tells them apart.
+-- A stream is split in one way (`one_split`), and there is one (`some_split`); a split continues where it stopped (`split_goes_on`). Later
+-- bytes do not change the length in the first four (`said_more`), so what begins with a message is not a rest; `first_cut` distinguishes
+-- the two.
 use Rattle.std.proofs.Common.{◌≡◌, ◌∙◌, sym, ap, subst, ℕ, zero, suc, ◌+◌, ◌<◌, ◌≤◌, ◌⊎◌, inl, inr, List, [], ◌∷◌, ◌++◌, length, take, drop, refl, arith, length-append, append_assoc}
 use Rattle.std.proofs.lemmas.List.{take_at, drop_at}
 use Rattle.std.specs.List.{flat_map, AllByRecursion}
@@ -10,7 +10,7 @@ use Rattle.std.proofs.lemmas.Bool.{cases_lt}
 use Rattle.fuse_wire.specs.declared.limits.TheConstants.{HEADER_SIZE, MAX_MESSAGE_SIZE}
 use Rattle.fuse_wire.specs.Stream.{said_length, IsGoodLength, IsMessage, IsBad, IsOpen, IsRest, IsSplit}
 
--- bytes behind the first four do not change the length that these say
+-- bytes after the first four do not change the length that these say
 pub said_more : (xs ys : List ℕ) → 4 ≤ length xs → said_length (xs ++ ys) ≡ said_length xs
 said_more [] ys h = absurd (omega arith)
 said_more (a ∷ []) ys h = absurd (omega arith)
@@ -114,7 +114,7 @@ split_within (suc room) stream short = elim (first_cut stream) [
 pub some_split : (stream : List ℕ) → (ms : List (List ℕ)) × (rest : List ℕ) × IsSplit stream ms rest
 some_split stream = split_within (length stream) stream (omega arith)
 
--- messages go on where a rest stopped
+-- messages continue where a rest stopped
 pub split_goes_on : (x y rest end : List ℕ) (ms ns : List (List ℕ)) → IsSplit x ms rest → IsSplit (rest ++ y) ns end
     → IsSplit (x ++ y) (ms ++ ns) end
 split_goes_on x y rest end ms ns s t = record {

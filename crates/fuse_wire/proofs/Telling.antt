@@ -1,5 +1,6 @@
--- Shown data are answered as they are: the reply is the defined one, or EIO (shown_told); never EIO of data of which none lacks (whole_told),
--- as of held ones (held_told). A reply whose data are read after its header (told_whole), or that of EIO, set over it (told_unread).
+-- Shown data are answered as they are: the reply is the defined one, or EIO (shown_told); never EIO if no data are missing (whole_told), as
+-- of held bytes (held_told). A reply whose data are read after its header (told_whole), or the reply with EIO that is set over it
+-- (told_unread).
 use Rattle.std.proofs.Common.{◌≡◌, ◌∙◌, sym, ap, subst, ℕ, ◌+◌, ◌-◌, ◌<◌, ◌≤◌, List, ◌++◌, length, take, drop, Some, arith, inl, inr, true, false, refl, append_assoc, take-append-drop, length-append, length-drop}
 use Rattle.std.proofs.lemmas.List.{take_at, drop_at, take-take, length-take}
 use Rattle.devices.specs.Sources.{Source, MayGive, MayLack, Shows, held}
@@ -85,7 +86,7 @@ unread source place unique bytes some lacks =
     let same : place + length bytes ≡ place + (length (reply_with unique bytes) - OUT_HEADER_SIZE) = omega arith in
     inr (record { some = omega arith; is = refl; lacks = subst (MayLack source) same lacks })
 
--- what stood before the header stands there still
+-- the bytes before the header are unchanged
 before_kept : (at end : ℕ) (old mid head filled : List ℕ) → at ≤ end → length (take at old) ≡ at
     → take end mid ≡ (take at old ++ head) ++ filled → take at mid ≡ take at old
 before_kept at end old mid head filled less long is =

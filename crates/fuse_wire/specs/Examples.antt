@@ -7,8 +7,8 @@ use Rattle.byteorder.specs.Endian.{big_bytes}
 use Rattle.stack_model.specs.declared.attr.Attr.{Attr}
 use Rattle.fuse_wire.specs.Structures.{u32, u64, zeros, attr, getxattr_out, dirent}
 
--- a body of 56 bytes: the numbers 2, 1, 9 and 7 of 64 bits, and zeros. As items of a BATCH_FORGET
--- it has three complete ones after the first 8 bytes, and the count says two
+-- a body of 56 bytes: the numbers 2, 1, 9 and 7 of 64 bits, and zeros. As the items of a
+-- BATCH_FORGET it has three complete ones after the first 8 bytes, and the count is two
 abbrev pub some_body : List ℕ
 some_body = u64 2 ++ u64 1 ++ u64 9 ++ u64 7 ++ zeros 24
 
@@ -65,7 +65,7 @@ pub record MessageExamples : Type 0 where
         op = at_node getattr;
       }
 
--- the items of a BATCH_FORGET: no more than the count says, and only complete ones
+-- the items of a BATCH_FORGET: no more than its count, and only complete ones
 pub record ForgetExamples : Type 0 where
   pub no_items : op_of 42 (u32 0xffffffff ++ zeros 4) ≡ silent (batch_forget [])
   pub count_zero : op_of 42 (zeros 24) ≡ silent (batch_forget [])
@@ -73,7 +73,8 @@ pub record ForgetExamples : Type 0 where
       (batch_forget (record { node = 3; nlookup = 4 } ∷ []))
   pub short : op_of 42 (zeros 7) ≡ malformed 42
 
--- the name of a GETXATTR follows its structure, and ends with the only zero byte behind that
+-- the name of a GETXATTR follows its structure, and ends with the only zero byte after the
+-- structure
 pub record XattrExamples : Type 0 where
   pub one_byte : op_of 22 (zeros 8 ++ codes "a" ++ zeros 1) ≡ at_node (getxattr 0 (codes "a"))
   pub short : op_of 22 (zeros 7) ≡ malformed 22

@@ -1,11 +1,11 @@
--- linux/fuse.h: how long the structures of requests are, and those of replies.
+-- linux/fuse.h: the lengths of the structures of requests, and of those of replies.
 use Rattle.std.specs.Prelude.{◌≡◌, ◌≢◌, ℕ, ◌+◌, ◌%◌, ◌<◌, ◌≤◌, List, length, Bool, Option, nat_lt, if◌then◌else◌}
 use Rattle.stack_model.specs.declared.attr.Attr.{Attr}
 use Rattle.fuse_wire.specs.declared.reply.InitOut.TheVariants.{Version, Terms}
 use Rattle.fuse_wire.specs.Requests.{malformed, op_of}
 use Rattle.fuse_wire.specs.Structures.{init_out, entry_out, negative_entry_out, attr_out, open_out, getxattr_out, statfs_out, dirent_size, dirent, direntplus}
 
--- the opcode needs a body of n bytes, and asks for no more
+-- the opcode needs a body of n bytes, and no more
 pub record Needs (opcode n : ℕ) : Type 0 where
   pub short : (body : List ℕ) → length body < n → op_of opcode body ≡ malformed opcode
   pub whole : (body : List ℕ) → n ≤ length body → op_of opcode body ≢ malformed opcode

@@ -15,7 +15,7 @@ items_of f = forgets_in (length f.bytes.now / 16) f.bytes.now
 abbrev pub SplitsFirst : Forgets → Option (Forget × Forgets) → Type 0
 SplitsFirst f split = MatchOption split (items_of f ≡ []) (λ x. items_of f ≡ x.0 ∷ items_of x.1)
 
--- what is requested
+-- the request
 abbrev pub op_said : Read → Op
 op_said (Init major minor readahead flags) = init major minor readahead flags
 op_said (Lookup name) = at_node (lookup name.now)

@@ -1,5 +1,5 @@
--- linux/fuse.h, fuse_out_header: a reply is its length, its error, and its request's unique, and
--- then its data.
+-- linux/fuse.h, fuse_out_header: a reply is its length, its error, its request's unique, and then
+-- its data.
 use Rattle.std.specs.Prelude.{ℕ, ◌+◌, ◌-◌, ◌^◌, List, ◌++◌, length}
 use Rattle.fuse_wire.specs.declared.errno.Errno.{Errno}
 use Rattle.fuse_wire.specs.declared.limits.TheConstants.{OUT_HEADER_SIZE}
@@ -13,6 +13,6 @@ reply_head unique n = u32 (OUT_HEADER_SIZE + n) ++ u32 0 ++ u64 unique
 unfoldable pub reply_with : ℕ → List ℕ → List ℕ
 reply_with unique bytes = reply_head unique (length bytes) ++ bytes
 
--- the reply of an error: a header alone, with the negated number
+-- the reply with an error: a header alone, with the negated number
 unfoldable pub error_reply : ℕ → Errno → List ℕ
 error_reply unique errno = u32 OUT_HEADER_SIZE ++ u32 (2 ^ 32 - errno_number errno) ++ u64 unique

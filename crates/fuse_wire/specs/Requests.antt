@@ -18,18 +18,18 @@ pub data NodeOp : Type 0 where
   getxattr : (size : ℕ) (name : List ℕ) → NodeOp
   listxattr : (size : ℕ) → NodeOp
 
--- what is answered without data, whatever the node
+-- requests that are answered without data, whatever the node
 pub data DoneOp : Type 0 where
   release fsync flush releasedir fsyncdir destroy : DoneOp
 
--- what has no reply
+-- requests without a reply
 pub data SilentOp : Type 0 where
   forget : (nlookup : ℕ) → SilentOp
   batch_forget : (items : List Forget) → SilentOp
   interrupt : SilentOp
 
--- what is requested. A malformed request is one of a served opcode whose body is shorter than its
--- structure, or whose name is none
+-- a request. A malformed one has a served opcode and a body that is shorter than its structure, or
+-- a name that is not valid
 pub data Op : Type 0 where
   init : (major minor readahead flags : ℕ) → Op
   at_node : (op : NodeOp) → Op
@@ -78,8 +78,8 @@ abbrev pub forgets_in : ℕ → List ℕ → List Forget
 forgets_in zero bytes = []
 forgets_in (suc n) bytes = forget_one bytes ∷ forgets_in n (drop 16 bytes)
 
--- batch_forget_in: count and dummy, and then as many items as the count says and are complete in
--- the body
+-- batch_forget_in: count and dummy, and then as many items as the count says, if they are complete
+-- in the body
 unfoldable pub forgets_of : List ℕ → List Forget
 forgets_of body = forgets_in (min (field 4 0 body) (length (drop 8 body) / 16)) (drop 8 body)
 
@@ -130,7 +130,7 @@ op_of opcode body =
     if is_in opcode modifying then modify else
     option_map_or (λ row. row.1 body) (find (λ row. opcode == row.0) served) other
 
--- a request: the number that its reply repeats, the number of its node, and what is requested
+-- a request: the number that its reply repeats, the number of its node, and the operation
 pub record Asked : Type 0 where
   pub unique : ℕ
   pub node : ℕ

@@ -4,7 +4,7 @@ use Rattle.std.specs.List.{AllByRecursion, flat_map}
 use Rattle.byteorder.specs.Endian.{little_number}
 use Rattle.fuse_wire.specs.declared.limits.TheConstants.{HEADER_SIZE, MAX_MESSAGE_SIZE}
 
--- the number in the n bytes from place p on, the lowest first
+-- the number in the n bytes from place p on, the lowest byte first
 abbrev pub field : ℕ → ℕ → List ℕ → ℕ
 field n p m = little_number n (drop p m)
 
@@ -16,7 +16,7 @@ said_length m = little_number 4 m
 abbrev pub IsGoodLength : ℕ → Type 0
 IsGoodLength n = (HEADER_SIZE ≤ n) × (n ≤ MAX_MESSAGE_SIZE)
 
--- a message says its own length
+-- a message states its own length
 pub record IsMessage (m : List ℕ) : Type 0 where
   pub good : IsGoodLength (length m)
   pub says : said_length m ≡ length m
@@ -31,7 +31,7 @@ IsUnfinished rest =
 abbrev pub IsOpen : List ℕ → Type 0
 IsOpen rest = (rest ≡ []) ⊎ IsUnfinished rest
 
--- four bytes that say n, which is no message's length
+-- four bytes that state n, which is no message's length
 pub record IsBad (rest : List ℕ) (n : ℕ) : Type 0 where
   pub long : 4 ≤ length rest
   pub says : said_length rest ≡ n

@@ -23,11 +23,11 @@ u32 n = little_bytes 4 n
 unfoldable pub u64 : ℕ → List ℕ
 u64 n = little_bytes 8 n
 
--- so many bytes that are 0
+-- this many bytes that are 0
 unfoldable pub zeros : ℕ → List ℕ
 zeros n = replicate n 0
 
--- the numbers of errors, as Linux gives them (errno(3))
+-- the numbers of errors on Linux (errno(3))
 abbrev pub errno_number : Errno → ℕ
 errno_number ENOENT = 2
 errno_number EIO = 5
@@ -87,14 +87,14 @@ init_out_22 readahead session_flags =
 unfoldable pub init_out_rest : Bool → ℕ → List ℕ
 init_out_rest lasting flags = u32 1 ++ u16 (max_pages lasting flags) ++ u16 0 ++ zeros 32
 
--- init_out: the version alone for a client of a later major version, else the session's terms
+-- init_out: only the version for a client of a later major version, otherwise the session's terms
 unfoldable pub init_out : InitOut → List ℕ
 init_out Version = u32 7 ++ u32 31 ++ zeros 56
 init_out (Terms lasting acls minor readahead flags) =
     let front = init_out_22 readahead (bit_and flags (served_flags lasting acls)) in
     if nat_lt minor 23 then front else front ++ init_out_rest lasting flags
 
--- attr: its three times are one
+-- attr: its three times are equal
 unfoldable pub attr : Attr → List ℕ
 attr a =
     -- ino, size, blocks
@@ -111,7 +111,7 @@ entry_out a =
     -- nodeid, generation, entry_valid, attr_valid, entry_valid_nsec, attr_valid_nsec, attr
     u64 a.ino ++ u64 0 ++ u64 3600 ++ u64 3600 ++ u32 0 ++ u32 0 ++ attr a
 
--- entry_out of a name that is none: its nodeid is 0, and entry_valid says how long there is none
+-- entry_out for a name without an entry: its nodeid is 0, and entry_valid says how long it has none
 unfoldable pub negative_entry_out : List ℕ
 negative_entry_out =
     -- nodeid, generation, entry_valid, attr_valid, entry_valid_nsec, attr_valid_nsec, attr
@@ -151,7 +151,7 @@ dirent_size n = (24 + n + 7) / 8 * 8
 unfoldable pub dirent_front : ℕ → ℕ → ℕ → List ℕ → List ℕ
 dirent_front ino off file_type name = u64 ino ++ u64 off ++ u32 (length name) ++ u32 file_type
 
--- the zeros behind a name of n bytes
+-- the zeros after a name of n bytes
 abbrev pub padding : ℕ → List ℕ
 padding n = zeros (dirent_size n - (24 + n))
 
@@ -164,14 +164,14 @@ unfoldable pub direntplus : Option Attr → ℕ → ℕ → ℕ → List ℕ →
 direntplus entry ino off file_type name =
     option_map_or entry_out entry (zeros 128) ++ dirent ino off file_type name
 
--- dirent up to its name, of a row as the code has it
+-- dirent up to its name, for a row of the code
 abbrev pub row_front : Dirent → List ℕ
 row_front row = dirent_front row.ino row.off row.file_type row.name.now
 
--- dirent, of a row as the code has it
+-- dirent, for a row of the code
 abbrev pub row_bytes : Dirent → List ℕ
 row_bytes row = dirent row.ino row.off row.file_type row.name.now
 
--- direntplus, of an entry and a row as the code has it
+-- direntplus, for an entry and a row of the code
 abbrev pub plus_row_bytes : Option Attr → Dirent → List ℕ
 plus_row_bytes entry row = direntplus entry row.ino row.off row.file_type row.name.now

@@ -1,5 +1,5 @@
--- What a client may get: the defined reply; or, if its data are read, those that reads gave, after
--- the same header, or EIO.
+-- What a client may get: the defined reply; or, if its data are read, those that reads returned,
+-- after the same header, or EIO.
 use Rattle.std.specs.Prelude.{◌≡◌, ◌⊎◌, ◌<◌, ◌≤◌, ◌+◌, ◌-◌, ℕ, List, ◌++◌, length, take, drop, Bool, true, false, Option, Some, None, Result, OnOk, OnErr}
 use Rattle.devices.specs.Sources.{Source, MayGive, MayLack}
 use Rattle.fuse_wire.specs.declared.errno.Errno.TheVariants.{EIO}
@@ -12,7 +12,7 @@ pub record Reading : Type 0 where
   pub source : Source
   pub place : ℕ
 
--- as many bytes of data as are defined, which reads gave, behind the header that is defined
+-- as many bytes of data as are defined, which reads returned, after the header that is defined
 pub record HasRead (reading : Reading) (defined bytes : List ℕ) : Type 0 where
   pub long : length bytes ≡ length defined
   pub head : take OUT_HEADER_SIZE bytes ≡ take OUT_HEADER_SIZE defined
@@ -24,13 +24,13 @@ pub record IsUnread (reading : Reading) (unique : ℕ) (defined bytes : List ℕ
   pub is : bytes ≡ error_reply unique EIO
   pub lacks : MayLack reading.source (reading.place + (length defined - OUT_HEADER_SIZE))
 
--- what a request may get whose reply is defined so, and whose data are read, or are not
+-- a possible reply to a request whose reply is defined so, and whose data are read, or are not
 abbrev pub IsTold : Option Reading → ℕ → List ℕ → List ℕ → Type 0
 IsTold None unique defined bytes = bytes ≡ defined
 IsTold (Some reading) unique defined bytes =
     HasRead reading defined bytes ⊎ IsUnread reading unique defined bytes
 
--- the same, if the bytes are shown from which its data are read: the defined reply, or EIO
+-- the same, if the bytes from which its data are read are shown: the defined reply, or EIO
 abbrev pub IsRight : Option Reading → ℕ → List ℕ → List ℕ → Type 0
 IsRight None unique defined bytes = bytes ≡ defined
 IsRight (Some reading) unique defined bytes =
@@ -40,7 +40,7 @@ IsRight (Some reading) unique defined bytes =
 abbrev pub read_from : Source → ℕ → Option Reading
 read_from source place = Some (record { source = source; place = place })
 
--- the call appends a possible reply; or, if there is no room for it and none is got, nothing
+-- the call appends a possible reply; or, if there is no room for it and memory is refused, nothing
 abbrev pub AppendsTold : {E : Type 0} → Result (Unit {0}) E → Filled → Filled → Option Reading → ℕ
     → List ℕ → Type 0
 AppendsTold result before after reading unique defined =
@@ -55,8 +55,8 @@ abbrev pub TakesTold : Option Reading → ℕ → List ℕ → List ℕ → List
 TakesTold reading unique defined old new =
     (told : List ℕ) × IsTold reading unique defined told × (new ≡ old ++ told)
 
--- after the old bytes are n bytes. If true, they may be given from the place on; if false, there
--- are some, and the source may lack them
+-- after the old bytes are n bytes. If true, the source may give them from the place on; if false,
+-- there are some, and the source may lack them
 pub record Fills (source : Source) (place n : ℕ) (full : Bool) (old new : List ℕ) : Type 0 where
   pub filled : List ℕ
   pub long : length filled ≡ n

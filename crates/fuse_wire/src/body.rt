@@ -1,5 +1,5 @@
-//! What an opcode asks with the bytes after a message's header. Bytes after a structure are
-//! ignored: later clients append fields.
+//! What a message asks for, by its opcode and the bytes after its header. Bytes after a structure
+//! are ignored: later clients append fields.
 
 ghost use Rattle.std.specs.Prelude.{◌≡◌, ◌+◌, ◌≤◌, length, drop};
 ghost use Rattle.std.specs.Option.{option_map};
@@ -33,7 +33,7 @@ const READ_IN_SIZE: usize = 40;
 /// The size of a `struct fuse_getxattr_in`.
 const GETXATTR_IN_SIZE: usize = 8;
 
-// What an opcode asks with this body of a message.
+// What an opcode with this body of a message asks for.
 #[tactic(auto, unfolding(crate::specs::Requests::op_of))]
 pub fn read_op<'a>(opcode: u32, message: &[u8], body: &'a [u8]) -> Op<'a>
     requires rest { body.now ≡ drop HEADER_SIZE message.now }
@@ -130,7 +130,7 @@ pub fn wide(body: &[u8], place: usize) -> u64
     LittleEndian::read_u64(&body[place..])
 }
 
-// What a LOOKUP asks with this body of a message.
+// What a LOOKUP with this body of a message asks for.
 fn read_lookup<'a>(message: &[u8], body: &'a [u8]) -> Op<'a>
     requires { body.now ≡ drop HEADER_SIZE message.now }
     ensures { op_said result ≡ lookup_of body.now }
@@ -143,7 +143,7 @@ fn read_lookup<'a>(message: &[u8], body: &'a [u8]) -> Op<'a>
     }
 }
 
-// What a GETXATTR asks with this body of a message, which holds its structure.
+// What a GETXATTR with this body of a message asks for; the body holds its structure.
 fn read_getxattr<'a>(message: &[u8], body: &'a [u8]) -> Op<'a>
     requires rest { body.now ≡ drop HEADER_SIZE message.now }
     requires whole { 8 ≤ length body.now }
@@ -161,11 +161,11 @@ fn read_getxattr<'a>(message: &[u8], body: &'a [u8]) -> Op<'a>
     }
 }
 
-// The name at the end of a message, from a place on: its last byte is its only zero byte. A name is
+// The name at the end of a message, from a place on: its last byte is its only zero byte, and it is
 // not empty.
 //
-// The search for another one begins behind the name, and may end in what precedes it. So there are
-// 32 bytes to look at at once, and few names are longer.
+// The search for another zero byte begins after the name and may end in what precedes it. So there
+// are 32 bytes to look at at once, and few names are longer.
 #[tactic(auto, using(crate::proofs::Names::named))]
 fn read_name<'a>(message: &[u8], start: usize, body: &'a [u8]) -> Option<&'a [u8]>
     requires { body.now ≡ drop start message.now }

@@ -3,7 +3,7 @@
 ghost use Rattle.std.specs.Prelude.{◌≡◌};
 ghost use Rattle.fuse_wire.specs.Structures.{errno_number};
 
-/// What a reply's error field may say, negated (Linux's asm-generic/errno.h).
+/// The errors of replies; the error field holds the negated number (Linux's asm-generic/errno.h).
 #[derive(Clone, Copy, Debug, PartialEq, Eq)]
 pub enum Errno {
     /// No such entry, 2.
@@ -14,19 +14,19 @@ pub enum Errno {
     ENOTDIR = 20,
     /// A directory, 21.
     EISDIR = 21,
-    /// A request that cannot be meant, 22.
+    /// An invalid request, 22.
     EINVAL = 22,
     /// The tree is read-only, 30.
     EROFS = 30,
-    /// A size that is too small for what was asked, 34.
+    /// A size that is too small for the answer, 34.
     ERANGE = 34,
-    /// A name above 255 bytes, 36.
+    /// A name of more than 255 bytes, 36.
     ENAMETOOLONG = 36,
     /// A request that is not served, 38.
     ENOSYS = 38,
     /// No such extended attribute, 61.
     ENODATA = 61,
-    /// A protocol version that is not spoken, 71.
+    /// An unsupported protocol version, 71.
     EPROTO = 71,
     /// An extended attribute that is not served, 95.
     EOPNOTSUPP = 95,

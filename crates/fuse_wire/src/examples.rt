@@ -1,9 +1,9 @@
-//! Worked examples: what messages ask, and rows and attributes as bytes, by computation.
+//! Worked examples: what messages ask for, and rows and attributes as bytes, by computation.
 #![tactic(auto, unfolding(crate::proofs::Computing::wire_on_literals))]
 
 ghost use Rattle.fuse_wire.specs.Examples.{OpcodeExamples, MessageExamples, ForgetExamples, XattrExamples, DirentExamples, AttributesExample, FlagExamples, LimitExamples};
 
-/// What each opcode asks, by its number.
+/// What each opcode asks for, by its number.
 pub fn opcodes_example()
     ensures { OpcodeExamples }
 {}

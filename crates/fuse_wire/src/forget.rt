@@ -1,4 +1,4 @@
-//! What a `FUSE_BATCH_FORGET` forgets.
+//! The lookups that a `FUSE_BATCH_FORGET` forgets.
 
 ghost use Rattle.std.specs.Prelude.{◌≡◌, ◌+◌, ◌*◌, ◌/◌, ◌%◌, ◌≤◌, length, take, min};
 ghost use Rattle.fuse_wire.specs.declared.limits.TheConstants.{HEADER_SIZE, MAX_MESSAGE_SIZE, MAX_FORGETS};
@@ -51,7 +51,7 @@ impl<'a> Forgets<'a> {
     ghost use Rattle.fuse_wire.specs.Requests.{forgets_of};
     ghost use Rattle.fuse_wire.specs.Reads.{items_of, SplitsFirst};
 
-    // The items in the body of a message: as many as its count says and are complete.
+    // The complete items in the body of a message, at most as many as its count says.
     #[tactic(auto, unfolding(crate::specs::Requests::forgets_of))]
     pub fn read(body: &'a [u8]) -> Self
         requires long { 8 ≤ length body.now }
@@ -85,7 +85,7 @@ impl<'a> Forgets<'a> {
     }
 }
 
-// The first items, this many, or as many as are complete.
+// The first items: this many, or as many as are complete.
 fn front(items: &[u8], count: usize) -> &[u8]
     ensures front { result.now ≡ take (16 * min count (length items.now / 16)) items.now }
     ensures whole { length result.now % 16 ≡ 0 }

@@ -8,20 +8,20 @@ use byteorder::{ByteOrder, LittleEndian};
 /// The size of the field `len` of a `struct fuse_in_header`, the first four bytes of a message.
 const LEN_SIZE: usize = 4;
 
-/// What some bytes begin with.
+/// What a run of bytes begins with.
 #[derive(Clone, Copy, PartialEq, Eq)]
 pub enum Framed {
-    /// No message yet: none has begun, or bytes of it are still to come.
+    /// No complete message yet: more bytes are needed.
     More,
-    /// Four bytes that say this length in bytes, which no message has.
+    /// Four bytes with this length, which no message can have.
     Bad(u32),
     /// A message of this many bytes.
     Whole(usize),
 }
 
-/// Says what the bytes of a stream begin with, from a message's first byte on. The length that a
-/// message says (linux/fuse.h, `fuse_in_header.len`) counts its header, and is judged as soon as
-/// its four bytes are there.
+/// Says what the bytes of a stream begin with, from the first byte of a message on. The length that
+/// a message states (linux/fuse.h, `fuse_in_header.len`) includes its header, and is checked as
+/// soon as its four bytes have arrived.
 #[tactic(auto, using(crate::proofs::Begins::framed))]
 pub fn frame(bytes: &[u8]) -> Framed
     ensures { Frames bytes.now result }

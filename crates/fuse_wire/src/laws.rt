@@ -1,4 +1,4 @@
-//! What holds of every stream, by the definitions alone.
+//! Laws of all streams, from the definitions alone.
 
 ghost use Rattle.std.specs.Prelude.{◌≡◌, ◌+◌, ◌*◌, ◌≤◌, length, ◌++◌, ◌∷◌, [], ℕ, List, take, drop, Some};
 ghost use Rattle.fuse_wire.specs.declared.framing.Framed.{Framed};
@@ -10,7 +10,7 @@ ghost use Rattle.fuse_wire.specs.Laws.{BodySizes, ReplySizes, RowSizes};
 ghost use Rattle.fuse_wire.specs.Told.{Reading, IsTold, IsRight};
 ghost use Rattle.devices.specs.Sources.{MayLack, Shows, held};
 
-/// Every stream is cut into messages and a rest, in one way.
+/// Every stream is cut into messages and a rest in exactly one way.
 #[tactic(auto, using(crate::proofs::Splits::one_split, crate::proofs::Splits::some_split))]
 pub fn one_split()
     ensures some { (stream : List ℕ) → (ms : List (List ℕ)) × (rest : List ℕ)
@@ -19,7 +19,7 @@ pub fn one_split()
         IsSplit stream ms r → IsSplit stream ns q → (ms ≡ ns) × (r ≡ q) }
 {}
 
-/// A stream may be cut piece by piece: what a piece leaves over goes before the next one, and a bad
+/// A stream may be cut piece by piece: what remains of one piece precedes the next, and a bad
 /// length stays bad.
 #[tactic(auto, using(crate::proofs::Begins::pieces))]
 pub fn pieces_do_not_matter()
@@ -40,14 +40,14 @@ pub fn frames_make_the_split()
     ensures last { (bytes : List ℕ) → IsRest bytes → IsSplit bytes [] bytes }
 {}
 
-/// Bodies of requests: shorter than their structure they are malformed, and else never, whatever
-/// follows it.
+/// A request's body is malformed if it is shorter than its structure, and otherwise never, whatever
+/// follows the structure.
 #[tactic(auto, using(crate::proofs::Bodies::body_sizes))]
 pub fn bodies_hold_their_structures()
     ensures { BodySizes }
 {}
 
-/// A message forgets at most 65,789 nodes, and may be long enough for them.
+/// A message forgets at most 65,789 nodes, and the longest one has room for them.
 #[tactic(auto, using(crate::proofs::Bodies::few_forgets))]
 pub fn forgets_are_few()
     ensures most { (body : List ℕ) →
@@ -62,8 +62,9 @@ pub fn structures_have_their_sizes()
     ensures rows { RowSizes }
 {}
 
-/// A reply whose data are read from shown bytes is the defined one, if these are the right data, or
-/// that of EIO. It is the defined one if the source lacks none of them, as one that is held.
+/// A reply whose data are read from shown bytes is the defined reply, if these are the right data,
+/// or that of EIO. If the source lacks none of them, for instance because they are held, it is the
+/// defined reply.
 pub fn shown_data_are_told()
     ensures shown { (reading : Reading) (xs : List ℕ) (unique : ℕ) (defined bytes : List ℕ) →
         Shows reading.source xs →

@@ -1,14 +1,16 @@
 //! Messages of the FUSE kernel protocol, version 7.31 (linux/fuse.h), as bytes, in little-endian.
 //!
-//! [`frame`] cuts a stream into messages, and [`Request::read`] says what one asks, for every
-//! opcode. [`put_head`] and its like append a complete reply each to [`Replies`]; a READDIR's is
-//! written row by row, [`put_data_head`] and then [`put_dirent`] or [`put_direntplus`], and its
-//! length last, by [`set_data_head`]. Definitions in `specs/` restate the protocol; [`laws`] says
-//! that a stream is cut in one way, [`examples`] what each opcode asks. Framing and reading take no
-//! memory, and a few steps for each byte; names are borrowed. What appends asks for memory at most
-//! once, for the replies' growth, and leaves them unchanged if that is refused; with enough room
-//! nothing fails. [`put_read`] alone reads: the data of a reply, from an image's bytes. The crate
-//! uses `stack_model`, `devices`, `byteorder`, `memchr`.
+//! [`frame`] cuts a stream into messages, and [`Request::read`] reads what a message asks for, for
+//! every opcode. [`put_head`] and its like append one complete reply each to [`Replies`]. The reply
+//! to READDIR is written row by row: [`put_data_head`], then [`put_dirent`] or [`put_direntplus`],
+//! and its length last, with [`set_data_head`].
+//!
+//! Definitions in `specs/` restate the protocol; [`laws`] says that a stream is cut in one way,
+//! [`examples`] what each opcode asks for. Framing and reading take no memory, and a few steps for
+//! each byte; names are borrowed. A function that appends asks for memory at most once, to grow the
+//! replies, and leaves them unchanged if that is refused; with enough room nothing fails. Only
+//! [`put_read`] reads: the data of a reply, from an image's bytes. The crate uses `stack_model`,
+//! `devices`, `byteorder`, `memchr`.
 #![tactic(auto)]
 
 mod body;

@@ -1,5 +1,5 @@
 //! The opcodes that are distinguished (linux/fuse.h, `enum fuse_opcode`, with the prefix `FUSE_`).
-//! Every other number is answered as a request that is not served.
+//! Every other number is answered as an unsupported request.
 
 pub const LOOKUP: u32 = 1;
 

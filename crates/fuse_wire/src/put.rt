@@ -1,5 +1,5 @@
 //! Replies and rows as bytes. Each writer appends exactly its bytes; if the vector has no room for
-//! them and gets none, it is unchanged.
+//! them and cannot grow, it is unchanged.
 #![tactic(auto, unfolding(crate::specs::Replies::reply_with), using(crate::proofs::Sizes::sizes))]
 
 ghost use Rattle.std.specs.Prelude.{◌≡◌, ◌++◌, ◌<◌, ◌≤◌, ◌+◌, ◌-◌, ◌^◌, [], length, take, drop, vec_len, IsFalse};
@@ -23,8 +23,8 @@ use std::alloc::{AllocError, Allocator};
 /// The size of a `struct fuse_dirent` before its name.
 const DIRENT_FRONT_SIZE: usize = 24;
 
-/// The bytes over which a row with a short name is set: the entry, the front, and the name with
-/// zeros behind it.
+/// The bytes over which a row with a short name is set: the entry, the front, and the name with the
+/// zeros after it.
 pub const SHORT_ROW_SIZE: usize = 176;
 
 /// The padding after a name, up to a multiple of 8 bytes: fewer than these.
@@ -37,8 +37,8 @@ pub fn put_head<A: Allocator>(out: &mut Replies<A>, unique: u64) -> Result<(), A
     put_data_head(out, unique, 0)
 }
 
-/// Appends the header of a reply with `size` bytes of data, which are to follow: a
-/// `struct fuse_out_header` of 16 bytes, with no error.
+/// Appends the header of a reply with `size` bytes of data, which follow: a `struct
+/// fuse_out_header` of 16 bytes, with no error.
 pub fn put_data_head<A: Allocator>(
     out: &mut Replies<A>,
     unique: u64,
@@ -52,8 +52,8 @@ pub fn put_data_head<A: Allocator>(
     Ok(())
 }
 
-/// Sets the header of the last reply, which begins at this place: it has the number of data bytes
-/// after it, and no error.
+/// Sets the header of the last reply, which begins at this place: the length of the data after it,
+/// and no error.
 #[inline(always)]
 pub fn set_data_head<A: Allocator>(out: &mut Replies<A>, start: usize, unique: u64)
     requires there { start + 16 ≤ length out.old.items }
@@ -67,7 +67,7 @@ pub fn set_data_head<A: Allocator>(out: &mut Replies<A>, start: usize, unique: u
     let _ = head(front, 0, unique, size);
 }
 
-/// Appends the reply of an error: a `struct fuse_out_header` of 16 bytes alone, with the negated
+/// Appends the reply with an error: a `struct fuse_out_header` of 16 bytes alone, with the negated
 /// number.
 pub fn put_error<A: Allocator>(
     out: &mut Replies<A>,
@@ -81,7 +81,7 @@ pub fn put_error<A: Allocator>(
     Ok(())
 }
 
-/// Appends a reply with these bytes of data behind its header, in one growth.
+/// Appends a reply with these bytes of data after its header, in one growth.
 pub fn put_data<A: Allocator>(
     out: &mut Replies<A>,
     unique: u64,
@@ -136,8 +136,8 @@ pub fn put_entry<A: Allocator>(
     Ok(())
 }
 
-/// Appends the reply that a name is none, of 144 bytes (`struct fuse_entry_out`, with a nodeid of
-/// 0): for an hour the client need not ask for it again.
+/// Appends the reply that no entry has the name, of 144 bytes (`struct fuse_entry_out`, with a
+/// nodeid of 0): for an hour the client need not ask again.
 pub fn put_negative_entry<A: Allocator>(out: &mut Replies<A>, unique: u64) -> Result<(), AllocError>
     ensures { Appends result out.old out.new (reply_with unique negative_entry_out) }
 {
@@ -180,8 +180,8 @@ pub fn put_open<A: Allocator>(
     Ok(())
 }
 
-/// Appends the reply that says how long an extended attribute, or the list of them, is, of 24 bytes
-/// (`struct fuse_getxattr_out`).
+/// Appends the reply with the length of an extended attribute, or of the list of their names, of 24
+/// bytes (`struct fuse_getxattr_out`).
 pub fn put_xattr_size<A: Allocator>(
     out: &mut Replies<A>,
     unique: u64,
@@ -252,9 +252,9 @@ pub fn put_direntplus<A: Allocator>(
     put_row(out, &front[..end], row.name)
 }
 
-/// Appends a row of READDIRPLUS whose name has at most 22 bytes, given also with zeros up to 22. It
-/// is false, and nothing is appended, only if the replies would then have more than `most` bytes,
-/// or there is no room for [`SHORT_ROW_SIZE`] more.
+/// Appends a row of READDIRPLUS whose name has at most 22 bytes; the name is also given padded with
+/// zeros to 22. Returns false, and appends nothing, only if the replies would then have more than
+/// `most` bytes, or there is no room for [`SHORT_ROW_SIZE`] more.
 #[inline(always)]
 pub fn put_short_direntplus<A: Allocator>(
     out: &mut Replies<A>,
@@ -285,7 +285,7 @@ pub fn put_short_direntplus<A: Allocator>(
 }
 
 // Sets such a row over existing bytes, from a place on, and returns its end. The bytes set after
-// the end mean nothing.
+// the end are unspecified.
 #[tactic(auto, unfolding(crate::specs::Structures::dirent), using(crate::proofs::Sizes::sizes))]
 #[inline(always)]
 fn set_direntplus(
@@ -343,7 +343,7 @@ fn put_row<A: Allocator>(out: &mut Replies<A>, front: &[u8], name: &[u8]) -> Res
     Ok(())
 }
 
-// The same with room for more zeros than needed: eight are set at once, and cut to these.
+// The same with room for more zeros than needed: sets eight at once, then cuts them to these.
 #[inline(always)]
 fn put_in_room<A: Allocator>(out: &mut Replies<A>, front: &[u8], name: &[u8], padding: usize)
     requires few { padding ≤ 8 }

@@ -1,4 +1,4 @@
-//! The reply of data that are read into it.
+//! Replies whose data are read straight into them.
 
 ghost use Rattle.std.specs.Prelude.{◌≡◌, ◌+◌, ◌<◌, ◌≤◌, ◌^◌, ◌++◌, ℕ, List, length, take};
 ghost use Rattle.fuse_wire.specs.Replies.{reply_with};
@@ -12,11 +12,11 @@ use devices::{Contents, fill};
 use std::alloc::{AllocError, Allocator};
 
 /// Appends a reply with this many bytes of data after its header, read from a place on, in one
-/// growth; if there are some and they cannot be read in full, that of EIO. Data are read straight
-/// into the reply, and nothing else of the reply's memory is exposed.
+/// growth; if there are some and they cannot be read in full, appends the reply with EIO. Data are
+/// read straight into the reply, and no other memory of the replies is exposed.
 ///
-/// `AllocError` only if there was no room for the reply and none was got; nothing changed then, and
-/// nothing was read.
+/// `AllocError` only if there is no room for the reply and memory is refused; nothing changes then,
+/// and nothing is read.
 pub fn put_read<A: Allocator, D: Contents>(
     out: &mut Replies<A>,
     unique: u64,
@@ -35,7 +35,7 @@ pub fn put_read<A: Allocator, D: Contents>(
     Ok(())
 }
 
-// The same over existing bytes. It returns the place after the reply.
+// The same over existing bytes. Returns the place after the reply.
 fn set_read<D: Contents>(
     fields: &mut [u8],
     at: usize,

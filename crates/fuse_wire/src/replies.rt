@@ -1,8 +1,8 @@
-//! Replies, one after another, as they go to a device.
+//! Replies, one after another, for a device.
 //!
-//! They are at the front of a vector that keeps its length. Behind them are bytes of earlier
-//! replies, or zeros, which mean nothing: the next replies are set over them. Memory is therefore
-//! cleared once, when it is first written to, and not for each round anew.
+//! They are at the front of a vector that keeps its length. After them are bytes of earlier
+//! replies, or zeros; these mean nothing, and the next replies are set over them. Memory is
+//! therefore cleared once, when it is first written to, and not in each round.
 
 ghost use Rattle.std.specs.Prelude.{◌≡◌, ◌+◌, ◌<◌, ◌≤◌, ◌^◌, [], length, take, vec_len, vec_capacity, IfOk, OnOk};
 ghost use Rattle.fuse_wire.specs.Appends.{Appends, MakesRoom};
@@ -11,11 +11,11 @@ use crate::structure::set_bytes;
 use std::alloc::{AllocError, Allocator};
 use std::marker::Model;
 
-/// Zeros by which memory is cleared.
+/// Zeros that clear memory.
 const ZEROS: [u8; 1024] = [0; 1024];
 
-/// How many bytes are cleared at once, at most: few enough to be still in the processor's cache
-/// when replies are set over them.
+/// The most bytes that are cleared at once: few enough to be still in the processor's cache when
+/// replies are set over them.
 const CLEARED: usize = 8192;
 
 /// Replies, one after another. A contract sees their bytes, the total room, and the length of the
@@ -23,7 +23,7 @@ const CLEARED: usize = 8192;
 #[derive(Drop)]
 pub struct Replies<A: Allocator> {
     pub(crate) bytes: Vec<u8, A>,
-    // How many bytes they have.
+    // Their size in bytes.
     pub(crate) len: usize,
 }
 
@@ -53,7 +53,7 @@ impl<A: Allocator> Replies<A> {
         }
     }
 
-    /// No replies, with room for this many bytes. `AllocError` only if memory was refused.
+    /// No replies, with room for this many bytes. `AllocError` only if memory is refused.
     pub fn with_capacity(alloc: A, capacity: usize) -> Result<Self, AllocError>
         ensures items { IfOk result (λ replies. replies.items ≡ []) }
         ensures room { IfOk result (λ replies. capacity ≤ replies.room) }
@@ -64,7 +64,7 @@ impl<A: Allocator> Replies<A> {
         })
     }
 
-    /// How many bytes they have.
+    /// Their size in bytes.
     pub fn len(&self) -> usize
         ensures len { result ≡ length self.now.items }
         ensures few { result < 2 ^ 63 }
@@ -72,7 +72,7 @@ impl<A: Allocator> Replies<A> {
         self.len
     }
 
-    /// For how many bytes more there is room.
+    /// How many more bytes there is room for.
     pub fn room_left(&self) -> usize
         ensures { length self.now.items + result ≡ self.now.room }
     {
@@ -86,7 +86,7 @@ impl<A: Allocator> Replies<A> {
         &self.bytes[..self.len]
     }
 
-    /// Lets go of all of them. Their room stays.
+    /// Removes all replies. Their room stays.
     pub fn clear(&mut self)
         ensures items { self.new.items ≡ [] }
         ensures room { self.new.room ≡ self.old.room }
@@ -94,8 +94,8 @@ impl<A: Allocator> Replies<A> {
         self.len = 0;
     }
 
-    /// Makes room for this many bytes more. `AllocError` only if there was none for them and memory
-    /// was refused; nothing changed then.
+    /// Makes room for this many more bytes. `AllocError` only if there is no room for them and
+    /// memory is refused; nothing changes then.
     pub fn make_room(&mut self, more: usize) -> Result<(), AllocError>
         ensures { MakesRoom result self.old self.new more }
     {
@@ -105,7 +105,7 @@ impl<A: Allocator> Replies<A> {
         Ok(())
     }
 
-    /// Ensures that this many bytes follow the replies, over which others may be set.
+    /// Ensures that this many bytes, which others may be set over, follow the replies.
     #[inline(always)]
     pub(crate) fn stand(&mut self, more: usize) -> Result<(), AllocError>
         ensures room { MakesRoom result self.old self.new more }
@@ -129,8 +129,8 @@ impl<A: Allocator> Replies<A> {
         Ok(())
     }
 
-    /// Appends bytes. `AllocError` only if there was no room for them and memory was refused;
-    /// nothing changed then.
+    /// Appends bytes. `AllocError` only if there is no room for them and memory is refused; nothing
+    /// changes then.
     #[inline(always)]
     pub fn append(&mut self, bytes: &[u8]) -> Result<(), AllocError>
         ensures { Appends result self.old self.new bytes.now }
@@ -142,7 +142,7 @@ impl<A: Allocator> Replies<A> {
         Ok(())
     }
 
-    // The same, with bytes taken after the existing ones.
+    // The same, with new bytes after the existing ones.
     #[inline(never)]
     fn append_to_end(&mut self, bytes: &[u8]) -> Result<(), AllocError>
         ensures { Appends result self.old self.new bytes.now }
@@ -155,7 +155,7 @@ impl<A: Allocator> Replies<A> {
     }
 }
 
-/// Takes this many bytes after the existing ones, and clears them, and some more if there is room.
+/// Adds this many bytes after the existing ones, and some more if there is room, and clears them.
 #[inline(never)]
 pub(crate) fn clear_behind<A: Allocator>(bytes: &mut Vec<u8, A>, count: usize)
     requires { vec_len bytes.old + count ≤ vec_capacity bytes.old }

@@ -20,27 +20,27 @@ const UNIQUE: usize = 8;
 /// The offset of `nodeid` in a `struct fuse_in_header`.
 const NODEID: usize = 16;
 
-/// A message as it was read (linux/fuse.h, `struct fuse_in_header` and the structure after it).
+/// A message that was read (linux/fuse.h, `struct fuse_in_header` and the structure after it).
 #[derive(Clone, Copy)]
 pub struct Request<'a> {
     /// The number that the reply repeats.
     pub unique: u64,
-    /// The number of the node that is asked about.
+    /// The number of the node that the request is about.
     pub node: u64,
-    /// What is asked.
+    /// The request.
     pub op: Op<'a>,
 }
 
-/// What is asked, with the fields that answers use.
+/// A request, with the fields that answers use.
 #[derive(Clone, Copy)]
 pub enum Op<'a> {
     /// The first request of a session (`FUSE_INIT`).
     Init {
-        /// The protocol's version that the client speaks.
+        /// The client's protocol version.
         major: u32,
         /// Its minor version.
         minor: u32,
-        /// The client's limit of bytes that it reads ahead.
+        /// The most bytes that the client reads ahead.
         max_readahead: u32,
         /// What the client can do ([`flags`](crate::flags)).
         flags: u32,
@@ -83,7 +83,7 @@ pub enum Op<'a> {
     Opendir,
     /// Rows of a directory (`FUSE_READDIR`).
     Readdir {
-        /// The place of the row before the first one wanted; 0 for the first row of all.
+        /// The place of the row before the first requested one; 0 for the first row of all.
         offset: u64,
         /// How many bytes of rows at most.
         size: u32,
@@ -92,7 +92,7 @@ pub enum Op<'a> {
     Releasedir,
     /// Store what was written to a directory (`FUSE_FSYNCDIR`).
     Fsyncdir,
-    /// An earlier request is no longer wanted (`FUSE_INTERRUPT`).
+    /// An earlier request is no longer needed (`FUSE_INTERRUPT`).
     Interrupt,
     /// The session ends (`FUSE_DESTROY`).
     Destroy,
@@ -103,30 +103,30 @@ pub enum Op<'a> {
     },
     /// Rows of a directory, each with its node's entry (`FUSE_READDIRPLUS`).
     Readdirplus {
-        /// The place of the row before the first one wanted; 0 for the first row of all.
+        /// The place of the row before the first requested one; 0 for the first row of all.
         offset: u64,
         /// How many bytes of rows at most.
         size: u32,
     },
     /// An extended attribute of a node (`FUSE_GETXATTR`).
     Getxattr {
-        /// How many bytes of it at most; with 0 its length is asked.
+        /// The most bytes of it; 0 asks for its length.
         size: u32,
         /// Its name, without the zero byte. It is not empty.
         name: &'a [u8],
     },
     /// The names of a node's extended attributes (`FUSE_LISTXATTR`).
     Listxattr {
-        /// How many bytes of them at most; with 0 their length is asked.
+        /// The most bytes of them; 0 asks for their length.
         size: u32,
     },
     /// An opcode that would change the tree.
     Modify,
-    /// An opcode that is not served.
+    /// An unsupported opcode.
     Other,
-    /// A body that is shorter than its structure, or no name.
+    /// A body that is shorter than its structure, or has no valid name.
     Malformed {
-        /// The opcode that the message says.
+        /// The message's opcode.
         opcode: u32,
     },
 }
@@ -146,7 +146,7 @@ impl<'a> Request<'a> {
     }
 }
 
-/// The node and the name of a LOOKUP, for reading ahead: no answer follows from it. None for any
+/// The node and the name of a LOOKUP, for reading ahead: no answer depends on it. `None` for any
 /// other message. Only the length of the name is checked.
 pub fn glance(message: &[u8]) -> Option<(u64, &[u8])> {
     if message.len() < HEADER_SIZE + 2 || LittleEndian::read_u32(&message[OPCODE..]) != LOOKUP {

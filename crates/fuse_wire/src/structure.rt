@@ -1,6 +1,6 @@
 //! Fields that are set over existing bytes, from a place on. Each function returns the place after
-//! its field: for a contract the bytes before it are those before the field, and the field. Numbers
-//! are little-endian.
+//! its field; its contract says that the bytes before that place are those before the field,
+//! followed by the field. Numbers are little-endian.
 
 ghost use Rattle.std.specs.Prelude.{◌≡◌, ◌+◌, ◌≤◌, ◌++◌, length, take};
 ghost use Rattle.fuse_wire.specs.Structures.{u16, u32, u64, zeros};

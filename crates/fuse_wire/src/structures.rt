@@ -12,8 +12,8 @@ use crate::{Attr, Dirent, Errno, InitOut, flags};
 /// The size of a `struct fuse_init_out`.
 pub const INIT_OUT_SIZE: usize = 64;
 
-/// The size of its front that clients of minor versions below 23 know
-/// (`FUSE_COMPAT_22_INIT_OUT_SIZE`).
+/// The size of the front of a `struct fuse_init_out`, all that clients of minor versions below 23
+/// know (`FUSE_COMPAT_22_INIT_OUT_SIZE`).
 pub const COMPAT_22_INIT_OUT_SIZE: usize = 24;
 
 /// The size of a `struct fuse_entry_out`.
@@ -31,10 +31,10 @@ pub const GETXATTR_OUT_SIZE: usize = 8;
 /// The size of a `struct fuse_statfs_out`.
 pub const STATFS_OUT_SIZE: usize = 80;
 
-/// The version of the protocol that is spoken (`FUSE_KERNEL_VERSION`).
+/// The protocol's version (`FUSE_KERNEL_VERSION`).
 const MAJOR: u32 = 7;
 
-/// The minor version that is spoken (`FUSE_KERNEL_MINOR_VERSION`).
+/// The protocol's minor version (`FUSE_KERNEL_MINOR_VERSION`).
 const MINOR: u32 = 31;
 
 /// The flags that a session may have.
@@ -46,10 +46,10 @@ const LASTING_FLAGS: u32 = 0x01c6_6011;
 /// How many requests may wait in the background.
 const MAX_BACKGROUND: u16 = 12;
 
-/// From how many requests in the background on the client slows down.
+/// With this many requests in the background the client slows down.
 const CONGESTION_THRESHOLD: u16 = 9;
 
-/// The step of times, in nanoseconds.
+/// The resolution of times, in nanoseconds.
 const TIME_GRANULARITY: u32 = 1;
 
 /// How many pages of 4,096 bytes a request may have.
@@ -81,7 +81,7 @@ pub fn head(fields: &mut [u8], at: usize, unique: u64, size: usize) -> usize
     set_u64(fields, at, unique)
 }
 
-// The same of a reply with an error.
+// The same for a reply with an error.
 #[tactic(auto, unfolding(crate::specs::Replies::error_reply))]
 pub fn error_head(fields: &mut [u8], at: usize, unique: u64, errno: Errno) -> usize
     requires { at + 16 ≤ length fields.old }
@@ -185,7 +185,7 @@ fn max_pages(lasting: bool, flags: u32) -> u16
     }
 }
 
-// `struct fuse_attr`. Its three times are one.
+// `struct fuse_attr`. Its three times are equal.
 #[tactic(auto, unfolding(crate::specs::Structures::attr))]
 fn attr(fields: &mut [u8], at: usize, node: &Attr) -> usize
     requires { at + 88 ≤ length fields.old }
@@ -228,7 +228,7 @@ pub fn entry_out(fields: &mut [u8], at: usize, node: &Attr) -> usize
     attr(fields, at, node)
 }
 
-// `struct fuse_entry_out` of a name that is none.
+// `struct fuse_entry_out` for a name without an entry.
 #[tactic(auto, unfolding(crate::specs::Structures::negative_entry_out))]
 pub fn negative_entry_out(fields: &mut [u8], at: usize) -> usize
     requires { at + 128 ≤ length fields.old }

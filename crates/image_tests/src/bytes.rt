@@ -1,5 +1,5 @@
-//! Reads of a file that gives little at a time, is interrupted, ends or fails; and of bytes that
-//! are held.
+//! Reads of bytes that are held, and of a file that returns few bytes at a time, is interrupted,
+//! ends or fails.
 
 use devices::{Contents, InFile, InMemory, Unread, fill};
 use std::cell::Cell;
@@ -9,8 +9,8 @@ use std::os::unix::fs::FileExt;
 /// The bytes of the files.
 const BYTES: &[u8; 10] = b"0123456789";
 
-/// A file that gives at most this many bytes a read, is interrupted so often, and fails from a
-/// place on.
+/// A file that returns at most this many bytes per read, is interrupted this often, and fails from
+/// a place on.
 #[derive(Drop)]
 struct Slow {
     most: usize,
@@ -53,7 +53,7 @@ fn file(most: usize, interruptions: u32, fails_at: u64) -> InFile<Slow> {
     InFile::new(slow, 10)
 }
 
-// What a room of four bytes has, once it was filled from a place on.
+// The content of a room of four bytes, once it is filled from a place on.
 fn four<S: Contents>(source: &S, offset: u32) -> Result<[u8; 4], Unread> {
     let mut room = [0; 4];
     fill(source, &mut room, u64::from(offset))?;

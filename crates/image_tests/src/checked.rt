@@ -1,4 +1,4 @@
-//! What is kept of an image, checked and read as the image is.
+//! What is kept of an image, checked and read like the image itself.
 //!
 //! In the image of these tests the root holds three headers: a regular file `a` at 64, with four
 //! bytes of data at 96; a symbolic link `l` at 112, with its target at 144; and a hard link `h` at
@@ -6,7 +6,7 @@
 
 use devices::InMemory;
 use romfs_image::{CheckFault, HeldImage, ImageFault, Profile, Rule, check_held};
-use romfs_kept::gather;
+use romfs_kept::{Grain, gather};
 use romfs_reader::{Image, ImageView, Part};
 use std::alloc::Allocator;
 
@@ -25,14 +25,14 @@ fn image(sum: u8, target: u8) -> [u8; 208] {
 
 /// What is kept of the image, if it is sound.
 fn kept<A: Allocator + Copy>(alloc: A, bytes: &[u8]) -> Result<Image<A>, CheckFault> {
-    let Ok(gathered) = gather(alloc, &InMemory::new(bytes)) else {
+    let Ok(gathered) = gather(alloc, &InMemory::new(bytes), Grain::Byte) else {
         return Err(CheckFault::Memory);
     };
     let (image, _rows, _lists) = check_held(alloc, HeldImage::Kept(gathered), Profile::Usual)?;
     Ok(image)
 }
 
-/// What is read of it.
+/// What is read from it.
 #[derive(Clone, Copy, Debug, PartialEq, Eq)]
 struct Seen {
     full: u32,

@@ -1,4 +1,4 @@
-//! Files that are opened: images laid out by hand, and what is no image's file.
+//! Files that are opened: images laid out by hand, and files that hold no image.
 //!
 //! Each image has a regular file in its root, of 32 bytes of data. Its header is at 528, its name
 //! at 544, its data at 560; 592 bytes belong to the image.
@@ -36,7 +36,7 @@ fn image<A: Allocator>(alloc: A, name: u8, data: u8) -> Result<Vec<u8, A>, Alloc
     Ok(image)
 }
 
-/// What an open image gives: what is kept at the name and at the data; whether the bytes are in
+/// What an open image gives: the kept words at the name and at the data; whether the bytes are in
 /// memory, how many there are, and what is read at the data.
 #[derive(Clone, Copy, Debug, PartialEq, Eq)]
 struct Seen {
@@ -82,7 +82,7 @@ fn data_in_two<R: Threads + Sync, F: FileExt + Sync, A: Allocator + Sync>(
     join(rt, move || data_in(source), move || data_in(source))
 }
 
-/// The same of a file that is opened as one of this kind; none if it cannot be.
+/// The same for a file that is opened as one of this kind; none if it cannot be.
 fn data_as<R: Files + Threads + Sync, A: Allocator + Copy + Sync>(
     rt: &R,
     alloc: A,
@@ -104,7 +104,7 @@ where
     }
 }
 
-/// What an image with this name and these data gives: none of these are kept.
+/// What an image with this name and these data gives, with none of the data kept.
 fn gathered(name: u8, data: u8) -> Seen {
     Seen {
         name: Some(u32::from(name) << 24),
@@ -115,7 +115,7 @@ fn gathered(name: u8, data: u8) -> Seen {
     }
 }
 
-/// The same of several images, in their order.
+/// The same for several images, in their order.
 fn look_at_all<F: FileExt, A: Allocator + Copy>(
     alloc: A,
     kept: &[HeldImage<A>],
@@ -128,7 +128,7 @@ fn look_at_all<F: FileExt, A: Allocator + Copy>(
     Ok(all)
 }
 
-/// What nine images give, of which those with the numbers 3 and 6 have the same other path.
+/// What nine images give; those with the numbers 3 and 6 have the same other path.
 fn seen_at<'a, R: Files + Threads + Sync, A: Allocator + Copy + Send + Sync>(
     rt: &R,
     alloc: A,
@@ -153,7 +153,7 @@ fn seen_as(rt: &HostRuntime, path: &str, kind: FileKind) -> Option<Seen> {
     Some(look_at(&image.held, image.source.as_ref()?))
 }
 
-/// Whether reading fails if a file is opened as a regular one of this many bytes.
+/// Whether reading fails if a file is opened as a regular file of this many bytes.
 fn is_unread(rt: &HostRuntime, path: &str, size: u64) -> bool {
     match fs::open(rt, path) {
         Ok(file) => {
@@ -165,7 +165,7 @@ fn is_unread(rt: &HostRuntime, path: &str, size: u64) -> bool {
     }
 }
 
-/// Writes this many first bytes of an image into a file of its own, and gives its path.
+/// Writes this many first bytes of an image into a file of its own, and returns its path.
 fn written(rt: &HostRuntime, name: u8, data: u8, size: usize) -> Result<String, Fail> {
     let temporary = env::temp_dir(rt)?;
     let process = process::id(rt.process());
@@ -212,7 +212,7 @@ fn a_file_is_opened_by_its_kind(rt: HostRuntime) -> Result<(), Fail> {
         seen_as(&rt, c, FileKind::Stream),
         seen_as(&rt, c, FileKind::Regular { size: 540 }),
     ];
-    // the header ends before this size, and behind the file's last byte
+    // the header ends before this size, and after the file's last byte
     let is_told = is_unread(&rt, c, 592);
     fs::remove_file(&rt, w)?;
     fs::remove_file(&rt, c)?;

@@ -1,13 +1,13 @@
-//! Images laid out by hand, in files that give little at a time, end or fail.
+//! Images laid out by hand, in files that return few bytes at a time, end or fail.
 //!
 //! In the image of these tests a directory leads to itself and a later header back to an earlier
 //! one, a header lies in the name of another, a hard link leads outside, a symbolic link has a
-//! target of 20 bytes, and a regular file has data that look like headers. 832 of 900 bytes belong
-//! to it.
+//! target of 20 bytes, and a regular file has data that look like headers. 832 of the 900 bytes
+//! belong to the image.
 
 use devices::{Contents, Unread};
 use romfs_held::read::word;
-use romfs_kept::{GatherFault, gather, gather_with_trailer};
+use romfs_kept::{GatherFault, Grain, gather, gather_with_trailer};
 use std::alloc::Allocator;
 use std::cell::Cell;
 
@@ -67,7 +67,7 @@ fn image() -> [u8; FILE_SIZE] {
         720,
         b"\0\0\x02\xf0\x7f\xff\xff\xf0\0\0\0\0\0\0\0\0h\0\0\0\0\0\0\0\0\0\0\0\0\0\0\0",
     );
-    // a directory at 752, after which comes that at 528, and whose first header is in its name
+    // a directory at 752, followed by the one at 528, with its first header in its own name
     put(&mut image, 752, b"\0\0\x02\x11\0\0\x03\0\0\0\0\0\0\0\0\0");
     put(
         &mut image,
@@ -77,8 +77,8 @@ fn image() -> [u8; FILE_SIZE] {
     image
 }
 
-/// A file with at most this many bytes of the image, which gives at most this many bytes a read,
-/// and in which the read with this number, from 1, fails.
+/// A file with at most this many bytes of the image, which returns at most this many bytes per
+/// read. The read with this number, counted from 1, fails.
 #[derive(Drop)]
 struct Slow {
     image: [u8; FILE_SIZE],
@@ -124,7 +124,7 @@ impl Contents for Slow {
     }
 }
 
-/// What is asked of what was kept.
+/// What is read from what was kept.
 #[derive(Clone, Copy, Debug, PartialEq, Eq)]
 struct Seen {
     size: usize,
@@ -138,7 +138,7 @@ fn look_at<A: Allocator + Copy>(
     source: &Slow,
     at: [u32; 6],
 ) -> Result<Seen, GatherFault> {
-    let kept = gather(alloc, source)?;
+    let kept = gather(alloc, source, Grain::Byte)?;
     let image = kept.held();
     let size = image.len();
     let mut words = [0; 6];
@@ -158,7 +158,7 @@ fn look_at<A: Allocator + Copy>(
 // Headers, a name, a target and data.
 const PLACES: [u32; 6] = [528, 576, 608, 656, 720, 784];
 
-// What is kept there: of the data nothing.
+// What is kept there; no data are.
 const WORDS: [u32; 6] = [0x231, 0x6c00_0000, 0x6768_696a, 0, 0x2f0, 0x4d00_0000];
 
 #[test]
@@ -169,6 +169,17 @@ fn headers_names_and_targets_are_kept(rt: HostRuntime) {
         reads: 2,
     };
     assert_eq!(rt; look_at(rt.alloc(), &file(900, 900, 0), PLACES), Ok(told));
+}
+
+// How many reads it takes in blocks: the file is one.
+fn reads_in_blocks<A: Allocator + Copy>(alloc: A, source: &Slow) -> Result<u32, GatherFault> {
+    let _kept = gather(alloc, source, Grain::Block)?;
+    Ok(source.reads.get())
+}
+
+#[test]
+fn a_block_is_read_once(rt: HostRuntime) {
+    assert_eq!(rt; reads_in_blocks(rt.alloc(), &file(900, 900, 0)), Ok(1));
 }
 
 #[test]
@@ -216,7 +227,7 @@ fn look_behind<A: Allocator + Copy>(
     alloc: A,
     source: &Slow,
 ) -> Result<(usize, [u32; 2]), GatherFault> {
-    let kept = gather_with_trailer(alloc, source)?;
+    let kept = gather_with_trailer(alloc, source, Grain::Byte)?;
     let image = kept.held();
     let size = image.len();
     let mut words = [0; 2];

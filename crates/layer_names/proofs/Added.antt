@@ -1,5 +1,5 @@
--- Keys are added name by name. `begins`, `goes_on` and `ends` are the loop over the rows of a
--- directory, whose end is that the keys of all names were added.
+-- Keys are added name by name. `begins`, `goes_on` and `ends` are the loop over the rows of a directory; at its end the keys of all names
+-- are added.
 use Rattle.std.proofs.Common.{◌≡◌, ◌∙◌, sym, ap, ℕ, ◌+◌, ◌<◌, ◌≤◌, inl, inr, List, [], ◌∷◌, ◌++◌, append_assoc, subst, length, map, take, drop, refl, arith}
 use Rattle.std.specs.List.{slice_index_or}
 use Rattle.std.proofs.lemmas.Bool.{cases_lt}
@@ -38,7 +38,7 @@ long_here f shared rows i row l at front =
     let here = name_at f rows i row (f row) l at refl in
     subst (λ (x : List ℕ). shared ≤ length x) here (long_each shared (map f rows) front i [] (omega arith))
 
--- one row more, as the code goes
+-- one more row, as in the code
 pub goes_on : {X : Type 0} (f : X → List ℕ) (shared : ℕ) (rows : List X) (old new new' : List ℕ) (i : ℕ) (row : X) (k : ℕ)
     → i < length rows → row ≡ slice_index_or rows i row → AreBytes (f row) →
     k ≡ key 8 (drop shared (f row)) → new' ≡ new ++ k ∷ [] → Keying shared (map f rows) old new i

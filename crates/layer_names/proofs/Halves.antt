@@ -1,6 +1,5 @@
--- Searches among keys that do not fall. `from_both` is the main lemma: one search for the first key
--- not below, and one for the first above, give where equal keys stand. `borrowed` is a step of
--- theirs without a branch.
+-- Searches among keys that do not fall. `from_both` is the main lemma: one search for the first key not below, and one for the first above,
+-- find the range of equal keys. `borrowed` is one of their steps, without a branch.
 use Rattle.std.proofs.Common.{◌≡◌, ℕ, ◌+◌, ◌-◌, ◌/◌, ◌%◌, ◌^◌, ◌<◌, ◌≤◌, inl, inr, List, length, arith, true, false, cond, ltb, leb, leb-true}
 use Rattle.std.specs.List.{AllWithin}
 use Rattle.std.specs.Int.Bits.{bit_and, and_mask}
@@ -27,7 +26,7 @@ module _ (keys : List ℕ) (key : ℕ) where
     pub before : AllWithin (λ at. at < key) keys 0 base
     pub after : AllWithin (λ at. key ≤ at) keys (base + size) (length keys)
 
-  -- the first key not below and the first above tell where equal keys stand
+  -- the first key not below and the first above bound the range of equal keys
   pub from_both : (low high : ℕ) → low ≤ length keys → high ≤ length keys
       → AllWithin (λ y. y < key) keys 0 low → AllWithin (λ y. key ≤ y) keys low (length keys) →
       AllWithin (λ y. leb y key ≡ true) keys 0 high → AllWithin (λ y. leb y key ≡ false) keys high (length keys)

@@ -1,5 +1,4 @@
--- Names whose keys differ have other bytes. So a search among keys leaves out only names that are
--- not the one sought: `narrows`.
+-- Names whose keys differ have different bytes. So a search among keys leaves out only names other than the one searched for: `narrows`.
 use Rattle.std.proofs.Common.{◌≡◌, ◌≢◌, ◌∙◌, sym, ap, subst, ℕ, ◌<◌, Bool, inl, inr, List, [], ◌++◌, length, take, drop, arith, All}
 use Rattle.std.specs.Cmp.Lexicographic.{slice_cmp}
 use Rattle.std.specs.List.{slice_index_or}
@@ -48,12 +47,12 @@ module _ (shared : ℕ) (keys : List ℕ) (names : List (List ℕ)) (is : AreKey
     | inr (inr q) ↦ absurd (omega arith)
   ]
 
-  -- where the key is another, the name is
+  -- if the key is another, the name is
   other_key : (name : List ℕ) (k : ℕ) (d : List ℕ) → k < length names → slice_index_or keys k 0 ≢ key 8 (drop shared name)
       → slice_index_or names k d ≢ name
   other_key name k d l n e = n (key_at k d 0 l ∙ ap (λ (x : List ℕ). key 8 (drop shared x)) e)
 
-  -- a name stands at none of the places outside the run of its key
+  -- a name is at none of the places outside the run of its key
   pub narrows : (name : List ℕ) (t low high : ℕ) → t ≡ key 8 (drop shared name) → IsKeyRun keys t low high → Narrows names name low high
   narrows name t low high made run =
       let n = length-keys in

@@ -1,5 +1,4 @@
--- Keys keep the order of names: `key_order`. Where two keys are the same the first bytes are
--- (`key_tells`).
+-- Keys keep the order of names: `key_order`. If two keys are the same, so are the first bytes (`key_tells`).
 use Rattle.std.proofs.Common.{◌≡◌, ◌∙◌, sym, ap, ℕ, zero, suc, ◌+◌, ◌*◌, ◌/◌, ◌%◌, ◌^◌, ◌<◌, ◌≤◌, inl, inr, List, [], ◌∷◌, ◌++◌, length, take, drop, refl, arith}
 use Rattle.std.specs.Prelude.{slice_index}
 use Rattle.std.specs.Cmp.Lexicographic.{slice_cmp}
@@ -12,15 +11,15 @@ use Rattle.std.proofs.lemmas.List.{get_or-take, get_or-drop, get_or_past, get_or
 use Rattle.std.proofs.lemmas.Nat.{mul-add-lt, div-mul-add, mod-mul-add}
 use Rattle.layer_names.specs.Keys.{key, AreBytes}
 
--- the same as `AreBytes`, by places past the end too
+-- the same as `AreBytes`, by places after the end too
 abbrev pub Bytes : List ℕ → Type 0
 Bytes xs = (k : ℕ) → slice_index xs k < 256
 
--- where each place reads as a byte, all are bytes
+-- if each place reads as a byte, all are bytes
 pub all_bytes : (xs : List ℕ) → Bytes xs → AreBytes xs
 all_bytes xs b k d l = rw (get_or_default xs k d 0 l) (b k)
 
--- where all are bytes, each place reads as one, past the end too
+-- if all are bytes, each place reads as one, after the end too
 pub each_byte : (xs : List ℕ) → AreBytes xs → Bytes xs
 each_byte xs b k = elim (cases_lt k (length xs)) [
   | inl l ↦ b k 0 l
@@ -30,7 +29,7 @@ each_byte xs b k = elim (cases_lt k (length xs)) [
 tail_bytes : (x : ℕ) (xs : List ℕ) → Bytes (x ∷ xs) → Bytes xs
 tail_bytes x xs b k = b (suc k)
 
--- what is left behind the first n of bytes are bytes
+-- what is left after the first n of bytes are bytes
 pub bytes-drop : (n : ℕ) (xs : List ℕ) → Bytes xs → Bytes (drop n xs)
 bytes-drop n xs b k = rw (get_or-drop n xs k 0) (b (n + k))
 
@@ -68,7 +67,7 @@ key_order (suc n) (x ∷ xs) (y ∷ ys) b c =
     (λ o e. let i = key_order n xs ys t (rw o at c) in rw e (omega arith))
     (λ o l. absurd (let z : Greater ≡ Less = rw o at c in cc)))
 
--- of bytes of one length a key tells the first ones
+-- for bytes of one length, a key determines the first ones
 pub key_tells : (n : ℕ) (xs ys : List ℕ) → Bytes xs → Bytes ys → length xs ≡ length ys → key n xs ≡ key n ys → take n xs ≡ take n ys
 key_tells zero xs ys a b l e = refl
 key_tells (suc n) [] [] a b l e = refl
@@ -83,7 +82,7 @@ key_tells (suc n) (x ∷ xs) (y ∷ ys) a b l e =
     let rest : key n xs ≡ key n ys = sym (mod-mul-add x w (key n xs) p) ∙ ap (λ (v : ℕ). v % w) s ∙ mod-mul-add y w (key n ys) q in
     rw (head, key_tells n xs ys (tail_bytes x xs a) (tail_bytes y ys b) (omega arith) rest) refl
 
--- what stands before both decides nothing
+-- a common front does not affect the order
 pub cmp-front : (front xs ys : List ℕ) → slice_cmp nat_cmp (front ++ xs) (front ++ ys) ≡ slice_cmp nat_cmp xs ys
 cmp-front [] xs ys = refl
 cmp-front (x ∷ front) xs ys = rw (tied_itself nat_cmp_total x) (cmp-front front xs ys)

@@ -1,5 +1,5 @@
--- The place of a name among names that rise. `higher` and `lower` are the steps of a search, which
--- leave out the half below or above; `here` and `nowhere` say what its end tells.
+-- The place of a name among names that rise. `higher` and `lower` are the steps of a search, which leave out the half below or above;
+-- `here` and `nowhere` say what its end means.
 use Rattle.std.proofs.Common.{◌≡◌, ◌≢◌, ◌∙◌, sym, ap, ℕ, ◌+◌, ◌<◌, ◌≤◌, inl, inr, List, [], length, Some, None, refl, arith, true, false, All}
 use Rattle.std.specs.Cmp.Lexicographic.{slice_cmp, pointwise}
 use Rattle.std.specs.List.{slice_index_or, position_or_len, AllWithin}
@@ -33,7 +33,7 @@ module _ (names : List (List ℕ)) (name : List ℕ) where
   fails : (its : List ℕ) → its ≢ name → pointwise nat_eq name its ≡ false
   fails its other = false_from_ne_true _ (λ e. other (sym ((bytes_eq-Decides name its).0 e)))
 
-  -- where no name is this one, it has no place
+  -- if no name is this one, it has no place
   pub nowhere : All IsOther names → None ≡ place_of name names
   nowhere p =
       let e : position_or_len (pointwise nat_eq name) names ≡ length names =
@@ -41,7 +41,7 @@ module _ (names : List (List ℕ)) (name : List ℕ) where
       (λ l. absurd (omega arith)) in
       rw (e, le-ltb (length names) (length names) (omega arith)) refl
 
-  -- where a name is this one, that is its place
+  -- if a name is this one, that is its place
   pub here : (i : ℕ) → Rise names → i < length names → slice_index_or names i [] ≡ name → Some i ≡ place_of name names
   here i rise l same =
       let at : pointwise nat_eq name (slice_index_or names i []) ≡ true = rw same ((bytes_eq-Decides name name).1 refl) in
@@ -50,7 +50,7 @@ module _ (names : List (List ℕ)) (name : List ℕ) where
       (λ k m. fails _ (λ q. below _ _ (rise k i [] m l) (q ∙ sym same))) (λ _. at) in
       rw (e, lt-ltb i (length names) (omega arith)) refl
 
-  -- where the middle name is less, all up to it are left out
+  -- if the middle name is less, all up to it are left out
   pub higher : (low high middle : ℕ) → Rise names → Narrows names name low high → middle < high
       → slice_cmp nat_cmp (slice_index_or names middle []) name ≡ Less → Narrows names name (middle + 1) high
   higher low high middle rise n l c = record { within = n.within; before = go; after = n.after }
@@ -65,7 +65,7 @@ module _ (names : List (List ℕ)) (name : List ℕ) where
             | inr (inr q) ↦ absurd (omega arith)
           ]
 
-  -- where the middle name is greater, it and all above are left out
+  -- if the middle name is greater, it and all above are left out
   pub lower : (low high middle : ℕ) → Rise names → Narrows names name low high → middle < high
       → slice_cmp nat_cmp (slice_index_or names middle []) name ≡ Greater → Narrows names name low middle
   lower low high middle rise n l c = record { within = (let w = n.within in omega arith); before = n.before; after = go }
@@ -83,7 +83,7 @@ module _ (names : List (List ℕ)) (name : List ℕ) where
             | inr (inr q) ↦ absurd (omega arith)
           ]
 
-  -- where no place is left, no name is this one
+  -- if no place is left, no name is this one
   pub all_other : (low high : ℕ) → Narrows names name low high → high ≤ low → All IsOther names
   all_other low high n l k d m = elim (cases_order k low) [
     | inl q ↦ n.after k d (omega arith) m
@@ -91,7 +91,7 @@ module _ (names : List (List ℕ)) (name : List ℕ) where
     | inr (inr q) ↦ n.after k d (omega arith) m
   ]
 
-  -- where one place is left, it is this one or none
+  -- if one place is left, it is this one or none
   pub not_this : (low high : ℕ) → Narrows names name low high → low + 1 ≡ high → slice_index_or names low [] ≢ name → All IsOther names
   not_this low high n l other k d m = elim (cases_order k low) [
     | inl q ↦ rw (q, get_or_default names low d [] (let w = n.within in omega arith)) other

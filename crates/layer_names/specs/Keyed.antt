@@ -4,7 +4,7 @@ use Rattle.std.specs.List.{slice_index_or, AllWithin}
 use Rattle.layer_names.specs.Names.{Rise}
 use Rattle.layer_names.specs.Keys.{key, AreBytes}
 
--- two names have no more bytes alike at their fronts: if both go on, they differ
+-- two names share no more bytes at their fronts: if both continue, they differ
 pub record IsMost (shared : ℕ) (x y : List ℕ) : Type 0 where
   pub differ : shared < length x → shared < length y → slice_index x shared ≢ slice_index y shared
 
@@ -12,12 +12,12 @@ pub record IsMost (shared : ℕ) (x y : List ℕ) : Type 0 where
 abbrev pub first_of : List (List ℕ) → List ℕ
 first_of names = slice_index_or names 0 []
 
--- the first name has this many bytes, and each begins with them
+-- the first name has this many bytes, and each name begins with them
 pub record ShareFront (shared : ℕ) (names : List (List ℕ)) : Type 0 where
   pub long : shared ≤ length (first_of names)
   pub same : All (λ name. take shared name ≡ take shared (first_of names)) names
 
--- the names come in order and share a front, and each key is made of the eight bytes after it
+-- the names come in order and share a front, and each key is made from the eight bytes after it
 pub record AreKeyed (shared : ℕ) (keys : List ℕ) (names : List (List ℕ)) : Type 0 where
   pub rise : Rise names
   pub bytes : All AreBytes names
@@ -30,7 +30,7 @@ pub record AddsKeys (shared : ℕ) (names : List (List ℕ)) (old new : List ℕ
   pub is : new ≡ old ++ keys
   pub keyed : AreKeyed shared keys names
 
--- a name is at none of the places that were left out
+-- the name is at none of the places that were left out
 pub record Narrows (names : List (List ℕ)) (name : List ℕ) (low high : ℕ) : Type 0 where
   pub within : high ≤ length names
   pub before : AllWithin (λ its. its ≢ name) names 0 low

@@ -9,8 +9,8 @@ use crate::has_name::HasName;
 use crate::key::key_of;
 use std::alloc::{AllocError, Allocator};
 
-/// Adds the keys of rows that come in the order of their names, each name once, and says how many
-/// bytes at their fronts all names share. The names may be any bytes, of any number.
+/// Adds the keys of rows that come in the order of their names, each name once, and returns how
+/// many bytes at the front all names share. The names may be any bytes, of any number.
 ///
 /// If memory is refused, some of the keys may have been added.
 pub fn add_keys<T: HasName, A: Allocator>(
@@ -28,7 +28,7 @@ pub fn add_keys<T: HasName, A: Allocator>(
     Ok(shared)
 }
 
-/// How many bytes two names have alike at their fronts.
+/// How many bytes two names share at the front.
 pub fn shared(a: &[u8], b: &[u8]) -> usize
     ensures bound_a { result ≤ length a.now }
     ensures bound_b { result ≤ length b.now }
@@ -42,7 +42,7 @@ pub fn shared(a: &[u8], b: &[u8]) -> usize
     len
 }
 
-/// The key of a name past the bytes that all share.
+/// The key of a name after the bytes that all share.
 fn key_past(name: &[u8], shared: usize) -> u64
     requires { shared ≤ length name.now }
     ensures value { result ≡ key 8 (drop shared name.now) }
@@ -51,8 +51,7 @@ fn key_past(name: &[u8], shared: usize) -> u64
     key_of(&name[shared..])
 }
 
-/// How many bytes at their fronts names in order share: those that the first and the last one
-/// share.
+/// How many bytes names in order share at the front: those that the first and the last one share.
 fn shared_by_all<T: HasName>(rows: &[T]) -> usize
     requires { Rise (map T.name rows.now) }
     ensures { ShareFront result (map T.name rows.now) }

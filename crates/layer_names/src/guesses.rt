@@ -1,7 +1,7 @@
 //! Guesses of the places of names, which need not be right.
 //!
-//! A guess counts only if the row has the name, so a stranger who knows the hash can make a look-up
-//! no dearer than by keys, but for the few slots that are read.
+//! A guess counts only if the row has the name. So a stranger with knowledge of the hash can make a
+//! look-up no more expensive than one by keys, except for the few slots that are read.
 
 ghost use Rattle.std.specs.Prelude.{◌≡◌, ◌≤◌, ◌+◌, ◌*◌, ◌^◌, ⊤, length, map, Some, MatchOption, IfOk};
 ghost use Rattle.layer_names.specs.Names.{Rise, place_of};
@@ -11,26 +11,26 @@ use crate::key::key_of;
 use std::alloc::{AllocError, Allocator};
 use std::marker::Model;
 
-/// How many slots are tried for one name: a line of the cache, so not one row in a thousand lacks a
-/// slot.
+/// How many slots are tried for one name: a cache line of them, so fewer than one row in a thousand
+/// lacks a slot.
 const PROBES: usize = 16;
 
 /// The value of a slot without a row.
 const NOWHERE: u32 = u32::MAX;
 
-/// More rows than this are not noted.
+/// The most rows that are noted.
 const MAX_ROWS: usize = 0x8000_0000;
 
-/// Guesses of the places of directories' rows among all rows, by a hash of a directory's number and
-/// a name. A clause sees how many slots of four bytes there are.
+/// Guesses of where the rows of directories are among all rows, by a hash of a directory's number
+/// and a name. A contract sees how many slots of four bytes there are.
 ///
-/// The lower bits of a slot are a row's place, as many as the last row takes; the others are bits
-/// of the hash of its directory and name, which rule out most other names without reading that row.
-/// Callers check whether the row at a guessed place has the name, so a wrong or missing guess costs
-/// a search and nothing else. At most 2^31 rows are noted.
+/// The lower bits of a slot are a row's place, as many bits as the last row needs. The others are
+/// bits of the hash of its directory and name, which rule out most other names without reading that
+/// row. Callers check whether the row at a guessed place has the name, so a wrong or missing guess
+/// costs only a search. At most 2^31 rows are noted.
 #[derive(Drop)]
 pub struct Guesses<A: Allocator> {
-    // Those where the search for a name may begin, and those after them that it may reach.
+    // The slots where the search for a name may begin, and those after them that it may reach.
     slots: Vec<u32, A>,
     // The bits of a slot that are a place.
     place_mask: u32,
@@ -46,7 +46,7 @@ impl<A: Allocator> Model for Guesses<A> {
 
 impl<A: Allocator> Guesses<A> {
     /// No guesses yet, with room for this many rows: 8 to 16 bytes a row. `AllocError` only if
-    /// memory was refused.
+    /// memory is refused.
     pub fn for_rows(alloc: A, rows: usize) -> Result<Self, AllocError>
         ensures { IfOk result (λ slots. slots ≤ 4 * rows + 17) }
     {
@@ -68,7 +68,7 @@ impl<A: Allocator> Guesses<A> {
     }
 
     /// The place of the row with this name among the rows of a directory, which begin at `start`
-    /// among all rows, if it was noted. None means nothing.
+    /// among all rows, if it was noted. `None` says nothing about the name.
     pub fn find<T: HasName>(
         &self,
         directory: u64,
@@ -94,7 +94,7 @@ impl<A: Allocator> Guesses<A> {
         None
     }
 
-    /// Reads the first slots for these hashes ahead. What comes of it says nothing.
+    /// Reads the first slots for these hashes ahead. The result is meaningless.
     pub fn read_ahead(&self, hashes: &[u64]) -> u32 {
         let mut sum = 0;
         for hash in hashes {
@@ -139,7 +139,7 @@ impl<A: Allocator> Guesses<A> {
         }
     }
 
-    // The slots that are looked at for a hash.
+    // The slots that are searched for a hash.
     fn slots_for(&self, hash: u64) -> &[u32]
         ensures { length result.now ≤ 16 }
     {
@@ -150,14 +150,14 @@ impl<A: Allocator> Guesses<A> {
         }
     }
 
-    // The first of them, by the upper half of the hash: the number of those where a search may
+    // The first of them, by the upper half of the hash: the number of slots where a search may
     // begin is a power of two.
     fn first_slot(&self, hash: u64) -> usize {
         let last = self.place_mask as usize * 2 + 1;
         (hash >> 32) as usize & last
     }
 
-    // The place in a slot, unless the bits beside it show that it is another name's.
+    // The place in a slot, unless the bits beside it show that it belongs to another name.
     fn place_in(&self, slot: u32, hash: u64) -> Option<usize> {
         if (slot ^ tag(hash)) & !self.place_mask == 0 {
             Some((slot & self.place_mask) as usize)
@@ -167,9 +167,9 @@ impl<A: Allocator> Guesses<A> {
     }
 }
 
-// Odd numbers, so a product with one loses nothing of the word, whose bits follow no pattern, so
-// each bit of the word moves many higher ones: 2^64 by the golden ratio, two of the last step of
-// MurmurHash3, and one of degski's mixer. A look-up is right with any numbers.
+// Odd numbers, so multiplication by one loses nothing of the word, and whose bits follow no
+// pattern, so each bit of the word affects many higher ones: 2^64 divided by the golden ratio, two
+// of the last step of MurmurHash3, and one of degski's mixer. A look-up is right with any numbers.
 const GOLDEN: u64 = 0x9e37_79b9_7f4a_7c15;
 
 const FOR_FIRST: u64 = 0xff51_afd7_ed55_8ccd;
@@ -178,9 +178,9 @@ const FOR_MIDDLE: u64 = 0xc4ce_b9fe_1a85_ec53;
 
 const FOR_LAST: u64 = 0xd6e8_feb8_6659_fd93;
 
-/// The hash of a directory and a name: its upper half gives their first slot, before the number of
-/// slots is known, the lower one the bits beside a place. Of names of up to 24 bytes all are
-/// hashed, of others the first, the middle and the last eight bytes.
+/// The hash of a directory and a name. Its upper half gives their first slot, whatever the number
+/// of slots; its lower half the bits beside a place. Names of up to 24 bytes are hashed in full, of
+/// longer names the first, the middle and the last eight bytes.
 pub fn hashed(directory: u64, name: &[u8]) -> u64 {
     let len = name.len();
     let begun = directory.wrapping_mul(GOLDEN).wrapping_add(len as u64);
@@ -196,7 +196,7 @@ pub fn hashed(directory: u64, name: &[u8]) -> u64 {
     (all ^ (all >> 32)).wrapping_mul(GOLDEN)
 }
 
-// The least power of two that is no less than this many rows, held at the greatest number of rows.
+// The least power of two that is at least this many rows, and at most the greatest number of rows.
 fn room_for(rows: usize) -> usize
     ensures some { 1 ≤ result }
     ensures few { result ≤ 2 * rows + 1 }

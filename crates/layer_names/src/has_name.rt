@@ -1,8 +1,8 @@
-//! What has a name.
+//! Things with a name.
 
 ghost use Rattle.std.specs.Prelude.{◌≡◌, ℕ, List};
 
-/// What has a name, as a row of a directory.
+/// Something with a name, such as a row of a directory.
 pub trait HasName {
     ghost name: { Self → List ℕ };
 

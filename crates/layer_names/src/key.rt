@@ -1,9 +1,9 @@
 //! The key of a name, and the front that names share.
 //!
-//! The names of a directory that come in order share the front that its first and its last name
-//! share. After it the next eight bytes are taken as a number, the name's key, the first byte
-//! highest. Keys never fall where names rise. Of names that share `file-`, `file-000017` has the
-//! key "000017" with two zeros behind it, and `file-1` the key "1" with seven.
+//! The names of a directory, in order, share the front that its first and its last name share. The
+//! next eight bytes of a name, taken as a number with the first byte highest, are its key. Keys
+//! never fall as names rise. If names share `file-`, `file-000017` has the key "000017" followed by
+//! two zeros, and `file-1` the key "1" followed by seven.
 
 ghost use Rattle.std.specs.Prelude.{◌≡◌, slice_index};
 ghost use Rattle.layer_names.specs.Keys.{key};

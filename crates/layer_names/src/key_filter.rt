@@ -1,9 +1,9 @@
-//! Keys that no row has, known by a bit.
+//! Keys that no row has, found by one bit.
 //!
-//! Many of the names that are asked for are not there, as a compiler's search for a header in one
-//! folder after another shows. A search among keys costs such a name as much as any other. Here
-//! each key of a row sets a bit, one of eight for each row, and a name whose key has none is no
-//! row's: of eight names that are not there about one is searched all the same.
+//! Many names that are looked up do not exist: a compiler searches one directory after another for
+//! a header. A search among keys costs such a name as much as any other. Here each key of a row
+//! sets a bit, out of eight bits for each row, and no row has a name whose key's bit is not set.
+//! About one in eight missing names is still searched.
 
 ghost use Rattle.std.specs.Prelude.{◌≡◌, ◌≤◌, ◌<◌, ◌^◌, ◌*◌, ◌↔◌, length, All, IsTrue, IfOk};
 ghost use Rattle.layer_names.specs.Noted.{bit_of, IsNoted, Keeps};
@@ -18,7 +18,7 @@ const BITS_A_ROW: usize = 8;
 /// How many bits there are at most.
 const MAX_BITS: usize = 0xffff_ffff;
 
-/// The keys of the rows of all directories, as a bit for each that others may share.
+/// The keys of the rows of all directories: one bit for each, which others may share.
 #[derive(Drop)]
 pub struct KeyFilter<A: Allocator> {
     bits: SlotSet<A>,
@@ -36,7 +36,7 @@ impl<A: Allocator> Model for KeyFilter<A> {
 }
 
 impl<A: Allocator> KeyFilter<A> {
-    /// No keys yet, with room for this many rows: a byte a row. `AllocError` only if memory was
+    /// No keys yet, with room for this many rows: a byte a row. `AllocError` only if memory is
     /// refused.
     pub fn for_rows(alloc: A, rows: usize) -> Result<Self, AllocError>
         ensures { IfOk result (λ bits. length bits ≤ 8 * rows) }
@@ -56,7 +56,7 @@ impl<A: Allocator> KeyFilter<A> {
         }
     }
 
-    /// Whether a key may be that of a row of a directory. If false, it is no row's.
+    /// Whether a key may be that of a row of a directory. If false, no row has it.
     pub fn may_have(&self, directory: u64, key: u64) -> bool
         ensures { IsNoted self.now directory key ↔ IsTrue result }
     {
@@ -76,7 +76,7 @@ impl<A: Allocator> KeyFilter<A> {
     }
 }
 
-// Which of this many bits is that of a key in a directory.
+// Which of this many bits belongs to a key in a directory.
 #[inline(always)]
 fn bit_of(count: usize, directory: u64, key: u64) -> usize
     requires { count < 2 ^ 32 }

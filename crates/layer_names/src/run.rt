@@ -20,8 +20,7 @@ pub(crate) fn run_of(keys: &[u64], key: u64) -> (usize, usize)
     (low, keys.partition_point(|at| *at <= key))
 }
 
-/// The first place from which on no key is below this one. Its steps have no branch on what they
-/// compare.
+/// The first place from which on no key is below this one. Its steps do not branch on the keys.
 fn first_from(keys: &[u64], key: u64) -> usize
     requires { IsNonDecreasing keys.now }
     ensures bound { result ≤ length keys.now }
@@ -42,8 +41,8 @@ fn first_from(keys: &[u64], key: u64) -> usize
     }
 }
 
-/// A number if `x` is less than `y`, and else 0. The borrow of a difference is its mask, since the
-/// compiler makes a branch of every comparison here, and no processor foresees it.
+/// `number` if `x` is less than `y`, otherwise 0. The borrow of a difference masks the number: the
+/// compiler makes a branch of every comparison here, and no processor predicts it.
 #[inline(always)]
 fn if_less(x: u64, y: u64, number: usize) -> usize
     ensures { result ≡ (if nat_lt x y then number else 0) }

@@ -1,8 +1,8 @@
 //! The place of a name in one directory.
 //!
-//! A look-up is a binary search among adjacent keys, with no branch on what it compares, and reads
-//! one row, whose full name is compared. If several names have one key, these are searched by full
-//! names. Most missing names have a key that the filter has not noted, and are not searched.
+//! A look-up is a binary search among adjacent keys, without branches on the keys, and reads one
+//! row to compare its full name. If several names have one key, these are searched by full names.
+//! Most missing names have a key that the filter has not noted, and are not searched.
 
 ghost use Rattle.std.specs.Prelude.{◌≡◌, map, All};
 ghost use Rattle.layer_names.specs.Names.{Rise, place_of};
@@ -17,9 +17,10 @@ use std::alloc::Allocator;
 use std::cmp::Ordering;
 
 /// The place of the row with this name, counted from 0: by key to the rows whose keys are equal,
-/// and among these by name; None if no row has the name, which may be any bytes, of any number.
+/// and among these by name; `None` if no row has the name. The name may be any bytes, of any
+/// number.
 ///
-/// `keys` and `shared` are what [`add_keys`] made of these rows, and the filter has noted the keys
+/// `keys` and `shared` are what [`add_keys`] made for these rows, and the filter has noted the keys
 /// under the directory's number.
 ///
 /// [`add_keys`]: crate::add_keys

@@ -1,6 +1,5 @@
--- The walk down the marks along a path: a path is cut by the value at a branch, or as the child of
--- its next name cuts the rest (`cut_step`). So the walk ends at a value that cuts (`cut_here`),
--- goes on at the child (`cut_deeper`), or finds none (`cut_nowhere`).
+-- The walk down the marks along a path: a path is cut by the value at a branch, or because the child of its next name cuts the rest
+-- (`cut_step`). So the walk ends at a value that cuts (`cut_here`), continues at the child (`cut_deeper`), or finds none (`cut_nowhere`).
 use Rattle.std.proofs.Common.{◌≡◌, ◌∙◌, ap, ℕ, ◌+◌, ◌<◌, ◌≤◌, List, [], ◌∷◌, refl, Option, Some, None, Bor, map, drop, get_or, length, add-one, Bool, true, false, ◌||◌, ◌&&◌, not}
 use Rattle.std.specs.Prelude.{nat_eq, option_map}
 use Rattle.std.specs.List.{starts_with}
@@ -17,14 +16,14 @@ use Rattle.layer_paths.specs.Marks.{cuts_itself, cuts_below, cut_by, is_plain}
 pub record IsPlainFrom (path : List (Bor (List ℕ))) (i : ℕ) : Type 0 where
   pub same : is_plain (map (λ n. n.now) path) ≡ is_plain (map (λ n. n.now) (drop i path))
 
--- where the names before the i-th are plain, the path is if the i-th is no marker's and the rest is
+-- if the names before the i-th are plain, the path is if the i-th is no marker's and the rest is
 -- plain
 pub plain_step : (path : List (Bor (List ℕ))) (i : ℕ) (d : Bor (List ℕ)) (b : Bool) → i < length path
     → IsPlainFrom path i → b ≡ starts_with nat_eq (get_or path i d).now marker
     → is_plain (map (λ n. n.now) path) ≡ (not b && is_plain (map (λ n. n.now) (drop (i + 1) path)))
 plain_step path i d b l w e = w.same ∙ rw (add-one, drop-cons path i d l, e) refl
 
--- where all names were looked at and are plain, the path is
+-- if all names were looked at and are plain, the path is
 pub plain_end : (path : List (Bor (List ℕ))) (i : ℕ) → length path ≤ i → IsPlainFrom path i → is_plain (map (λ n. n.now) path) ≡ true
 plain_end path i l w = w.same ∙ ap (λ p. is_plain (map (λ n. n.now) p)) (drop_all i path l)
 
@@ -34,7 +33,7 @@ pub cut_same : (f g : List (List ℕ) → Option Mark) → ((q : List (List ℕ)
 cut_same f g e [] = ap cuts_itself (e [])
 cut_same f g e (n ∷ path) = rw (e [], cut_same (λ q. f (n ∷ q)) (λ q. g (n ∷ q)) (λ q. e (n ∷ q)) path) refl
 
--- where there are no marks, no path is cut
+-- if there are no marks, no path is cut
 pub nothing_cut : (path : List (List ℕ)) → cut_by (λ q. None) path ≡ false
 nothing_cut [] = refl
 nothing_cut (n ∷ path) = nothing_cut path
@@ -44,7 +43,7 @@ abbrev pub cut_through : Option (Subtree Mark) → List (List ℕ) → Bool
 cut_through None path = false
 cut_through (Some s) path = cut_by (at_path (whole s)) path
 
--- seen through what was found, marks cut as the branch does; nothing where none was found
+-- through an optional branch, marks cut as the branch does; nothing if none was found
 pub by_through : (o : Option (Subtree Mark)) (path : List (List ℕ)) → cut_by (through o) path ≡ cut_through o path
 by_through None path = nothing_cut path
 by_through (Some s) path = refl
@@ -82,7 +81,7 @@ module _ {T : Type 0} (m : T → Mark) where
       (cut_same (λ q. option_map m (at_path (whole s) (n ∷ q))) (λ q. option_map m (through o q))
       (λ q. ap (λ x. option_map m x) (step s ss o n q e r f)) path)
 
-  -- the walk stands at `here`, with no cut above it, and the names from the i-th on are left
+  -- the walk is at `here`, with no cut above it, and the names from the i-th on are left
   pub record IsCutFrom (tree : Subtree T) (path : List (Bor (List ℕ))) (i : ℕ) (here : Subtree T) : Type 0 where
     pub same : cut_in tree (map (λ n. n.now) path) ≡ cut_in here (map (λ n. n.now) (drop i path))
 
@@ -91,11 +90,11 @@ module _ {T : Type 0} (m : T → Mark) where
     at_name : cut_in tree (map (λ n. n.now) path) ≡ cut_in s ((get_or path i d).now ∷ map (λ n. n.now) (drop (i + 1) path))
     at_name = w.same ∙ rw (add-one, drop-cons path i d l) refl
 
-    -- where the value at the branch cuts what is below it, the path is cut
+    -- if the value at the branch cuts what is below it, the path is cut
     pub cut_here : cuts_below (Some (m s.value)) ≡ true → cut_in tree (map (λ n. n.now) path) ≡ true
     cut_here e = at_name ∙ rw e refl
 
-    -- where the value cuts nothing below it, the path is cut as the child of the next name cuts the
+    -- if the value cuts nothing below it, the path is cut as the child of the next name cuts the
     -- rest
     pub cut_deeper : (ss : List (Subtree T)) (o : Option (Subtree T)) → s.below ≡ spread ss → NamesRise ss
         → named (get_or path i d).now ss ≡ o → cuts_below (Some (m s.value)) ≡ false
@@ -103,7 +102,7 @@ module _ {T : Type 0} (m : T → Mark) where
         ≡ cut_in_found o (map (λ n. n.now) (drop (i + 1) path))
     cut_deeper ss o e r f none = at_name ∙ cut_step s ss o _ _ e r f ∙ rw none refl
 
-    -- where the value cuts nothing below it, and no child has the next name, the path is not cut
+    -- if the value cuts nothing below it, and no child has the next name, the path is not cut
     pub cut_nowhere : (ss : List (Subtree T)) → s.below ≡ spread ss → NamesRise ss
         → named (get_or path i d).now ss ≡ None → cuts_below (Some (m s.value)) ≡ false
         → cut_in tree (map (λ n. n.now) path) ≡ false

@@ -1,7 +1,6 @@
--- The entries of a tree in the order of their paths are the listing of its run (`is_listing`): they
--- rise, an entry at a path is among them (`among_at`) and each of them is at its path (`at_among`);
--- and hard links end at one header (`one_end`), so each is at the place that is shown. Its kind is
--- that of the header there (`kind_read`).
+-- The entries of a tree in the order of their paths are the listing of its run (`is_listing`): they rise, an entry at a path is among them
+-- (`among_at`) and each of them is at its path (`at_among`). Hard links end at one header (`one_end`), so each is at the place that is
+-- shown. Its kind is that of the header there (`kind_read`).
 use Rattle.std.proofs.Common.{◌≡◌, ◌∙◌, sym, ap, subst, ℕ, inl, inr, List, [], ◌∷◌, map, refl, arith, Option, Some, None}
 use Rattle.std.specs.Prelude.{IsSomeAnd}
 use Rattle.std.specs.List.{AllByRecursion}

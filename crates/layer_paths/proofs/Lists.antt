@@ -9,7 +9,7 @@ all_get P [] k x a e = absurd (cc)
 all_get P (y ∷ xs) zero x a e = let f : y ≡ x = cc in subst P f a.0
 all_get P (y ∷ xs) (suc k) x a e = all_get P xs k x a.1 e
 
--- what stands in the list of values is the value of an element at its place
+-- an element of the list of values is the value of the element at its place
 pub get_of_map : {X Y : Type 0} (f : X → Y) (xs : List X) (k : ℕ) (y : Y) → slice_get (map f xs) k ≡ Some y
     → (x : X) × (slice_get xs k ≡ Some x) × (f x ≡ y)
 get_of_map f [] k y e = absurd (cc)

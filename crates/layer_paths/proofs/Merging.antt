@@ -1,7 +1,6 @@
--- The branches of two directories, laid one on another. `Merges` says in steps which branches come
--- of both; these are in order, and have at each path what is laid there (`are_laid`). The loop
--- keeps `Merging`: what merges the branches left merges all. Each turn and the end have a lemma, and
--- so has what a queue shows at its front.
+-- The branches of two directories, laid one on another. `Merges` says step by step which branches come from both; these are in order, and
+-- have at each path what is laid there (`are_laid`). The loop keeps `Merging`: what merges the remaining branches merges all. Each turn and
+-- the end have a lemma, and so has the first element of a queue.
 use Rattle.std.proofs.Common.{◌≡◌, sym, ap, subst, ℕ, ◌+◌, ◌*◌, ◌<◌, ◌≤◌, inl, inr, List, [], ◌∷◌, ◌++◌, length, get_or, drop, refl, arith, append_assoc, length-append, Option, Some, None}
 use Rattle.std.proofs.lemmas.List.{append-nil}
 use Rattle.std.proofs.lemmas.Map.Lookups.{exact_bytes}
@@ -15,7 +14,7 @@ use Rattle.layer_paths.proofs.Names.{same_or_not, named_below, all_above, above_
 use Rattle.layer_paths.proofs.Spread.{through, at_spread}
 use Rattle.layer_paths.proofs.Rising.{branch_rises}
 
--- which branches come of both
+-- which branches come from both
 pub data Merges {T : Type 0} (f : T → T → T) : List (Subtree T) → List (Subtree T) → List (Subtree T) → Type 0 where
   Lows_left : (ls : List (Subtree T)) → Merges f ls [] ls
   Highs_left : (hs : List (Subtree T)) → Merges f [] hs hs
@@ -86,7 +85,7 @@ module _ {T : Type 0} (f : T → T → T) where
   each (High l h ls hs out lt m) r s = (s.0, each m r s.1)
   each (Both l h b ls hs out e c m) r s = (c.rising, each m r.1 s.1)
 
-  -- the branches that come of both directories are those of one laid on the other
+  -- the branches that come from both directories are those of one laid on the other
   pub are_laid : {ls hs out : List (Subtree T)} → Merges f ls hs out → IsForest ls → IsForest hs → AreLaid f ls hs out
   are_laid {ls} {hs} {out} m r s =
       let names = rise m r.names s.names in
@@ -148,21 +147,21 @@ grown s ss = omega (arith, length-append (prefixed s.name s.below) (spread ss), 
 -- of what is left, l and h are the first branches
 module _ {T : Type 0} (f : T → T → T) (ls0 hs0 ls hs out : List (Subtree T)) (l h : Subtree T)
     (inv : Merging f ls0 hs0 (l ∷ ls) (h ∷ hs) out) where
-  -- where the lower side's first name comes first, its branch is put out as it is
+  -- if the lower side's first name comes first, its branch is appended unchanged
   pub low_first : name_cmp l.name h.name ≡ Less → Merging f ls0 hs0 ls (h ∷ hs) (out ++ l ∷ [])
   low_first lt = record {
     merged = λ more m. rw append_assoc (inv.merged (l ∷ more) (Low l h ls hs more lt m));
     smaller = omega (arith, grown l ls, inv.smaller);
   }
 
-  -- where the upper side's first name comes first, its branch is put out as it is
+  -- if the upper side's first name comes first, its branch is appended unchanged
   pub high_first : name_cmp l.name h.name ≡ Greater → Merging f ls0 hs0 (l ∷ ls) hs (out ++ h ∷ [])
   high_first gt = record {
     merged = λ more m. rw append_assoc (inv.merged (h ∷ more) (High l h ls hs more (above_of l.name h.name gt) m));
     smaller = omega (arith, grown h hs, inv.smaller);
   }
 
-  -- where both first names are one, the branch put out is the upper one laid on the lower
+  -- if both first names are equal, the branch appended is the upper one laid on the lower
   pub both_first : (b : Subtree T) → name_cmp l.name h.name ≡ Equal → IsLaid f l h b → Merging f ls0 hs0 ls hs (out ++ b ∷ [])
   both_first b e c = record {
     merged = λ more m. rw append_assoc (inv.merged (b ∷ more) (Both l h b ls hs more (exact_bytes l.name h.name e) c m));
@@ -179,11 +178,11 @@ module _ {T : Type 0} (f : T → T → T) (ls0 hs0 ls hs out : List (Subtree T))
   pub left_measure : 2 * (length (spread ls) + length (spread hs)) < 2 * (length (spread ls0) + length (spread hs0)) + 1
   left_measure = omega (arith, inv.smaller)
 
-  -- where no upper branches are left, the lower ones that are left complete the result
+  -- if no upper branches are left, the lower ones that are left complete the result
   pub lows_left : hs ≡ [] → Merges f ls0 hs0 ((out ++ ls) ++ hs)
   lows_left e = rw (e, append-nil) (inv.merged ls (rw e (Lows_left ls)))
 
-  -- where no lower branches are left, the upper ones that are left complete the result
+  -- if no lower branches are left, the upper ones that are left complete the result
   pub highs_left : ls ≡ [] → Merges f ls0 hs0 ((out ++ ls) ++ hs)
   highs_left e = rw (e, append-nil) (inv.merged hs (rw e (Highs_left hs)))
 
@@ -192,7 +191,7 @@ pub shown : {X : Type 0} (xs : List X) (x : Bor X) → IsItemAt xs 0 (Some x) �
 shown [] x e = absurd (let n = e.0 in cc)
 shown (y ∷ ys) x e = let n : x.now ≡ y = e.1 in cc
 
--- where one is shown, the queue is not empty
+-- if one is shown, the queue is not empty
 pub some_shown : {X : Type 0} (xs : List X) (x : Bor X) → IsItemAt xs 0 (Some x) → 0 < length xs
 some_shown [] x e = absurd (let n = e.0 in cc)
 some_shown (y ∷ ys) x e = omega arith

@@ -1,5 +1,5 @@
--- Branches by the order of their names. Names rise strictly, so a directory has at most one branch of a name (`named_at`), and none where
--- names pass from lower to higher ones (`named_between`); `from_name` says that a search by binary search may be made.
+-- Branches by the order of their names. Names rise strictly, so a directory has at most one branch with a name (`named_at`), and none if
+-- names pass from lower to higher ones (`named_between`); `from_name` says that binary search is possible.
 use Rattle.std.proofs.Common.{◌≡◌, ◌≢◌, ◌∙◌, sym, ap, subst, ℕ, zero, suc, ◌<◌, ◌≤◌, ◌⊎◌, inl, inr, List, [], ◌∷◌, length, get_or, refl, arith, Bool, true, false, Some, None}
 use Rattle.std.specs.declared.cmp.Ordering.{Ordering}
 use Rattle.std.specs.declared.cmp.Ordering.TheVariants.{Less, Equal, Greater}
@@ -17,7 +17,7 @@ use Rattle.layer_paths.specs.Rows.{Subtree, name_cmp, named, NamesRise, IsPlaceO
 abbrev pub IsSameOrNot : List ℕ → List ℕ → Type 0
 IsSameOrNot a b = ((a ≡ b) × (pointwise nat_eq a b ≡ true)) ⊎ ((a ≢ b) × (pointwise nat_eq a b ≡ false))
 
--- the test of two names tells whether they are the same
+-- the test of two names says whether they are the same
 pub same_or_not : (a b : List ℕ) → IsSameOrNot a b
 same_or_not a b = pick (pointwise nat_eq a b) refl
   where
@@ -33,7 +33,7 @@ not_below_itself a e = let s = nat_list_cmp_total.antisymm a a in let r : Less �
 pub below_differs : (a b : List ℕ) → name_cmp a b ≡ Less → a ≢ b
 below_differs a b l e = not_below_itself a (subst (λ x. name_cmp a x ≡ Less) (sym e) l)
 
--- where a name comes after another, that one comes before it
+-- if a name comes after another, that one comes before it
 pub above_of : (a b : List ℕ) → name_cmp a b ≡ Greater → name_cmp b a ≡ Less
 above_of a b e = nat_list_cmp_total.antisymm b a ∙ ap ordering_reverse e
 
@@ -88,7 +88,7 @@ named_nowhere n (s ∷ ss) f = elim (same_or_not s.name n) [
   | inr x ↦ rw x.1 (named_nowhere n ss (λ i d l. f (suc i) d (omega arith)))
 ]
 
--- where branches part into lesser and greater names, none has the name
+-- if branches part into lesser and greater names, none has the name
 pub named_between : {T : Type 0} (n : List ℕ) (ss : List (Subtree T)) (i : ℕ) → IsParted n ss i → named n ss ≡ None
 named_between n ss i p = named_nowhere n ss (λ k d l e. elim (cases_lt k i) [
   | inl lt ↦ absurd (let f = p.0 k d (omega arith) lt in cc)
@@ -119,7 +119,7 @@ from_name n (s ∷ ss) r zero (suc j) d le lt = keeps s.name (get_or ss j d).nam
 from_name n (s ∷ ss) r (suc i) zero d le lt = absurd (omega arith)
 from_name n (s ∷ ss) r (suc i) (suc j) d le lt = from_name n ss r.1 i j d (omega arith) (omega arith)
 
--- where a search by binary search finds a name, a branch has it, and where it finds none, there is a gap for it
+-- if binary search finds a name, a branch has it, and if it finds none, there is a gap for it
 pub placed : {T : Type 0} (n : List ℕ) (ss : List (Subtree T)) → NamesRise ss → (r : Result ℕ ℕ) → IsSearchInRange r (length ss)
     → IsBinarySearchResult (λ s. name_cmp s.name n) ss r → MatchResult r (IsPlaceOf n ss) (IsGapFor n ss)
 placed n ss rise (Ok i) l e = (l, λ d. exact_bytes (get_or ss i d).name n (e d))

@@ -1,4 +1,4 @@
--- Of a kind that is not a directory's the test for directories says so.
+-- The test for directories fails for every kind but Directory.
 use Rattle.std.proofs.Common.{◌≡◌, ◌≢◌, refl, false}
 use Rattle.romfs_format.specs.declared.head.Kind.{Kind}
 use Rattle.romfs_format.specs.declared.head.Kind.TheVariants.{HardLink, Directory, Regular, SymLink, Block, Character, Socket, Fifo}

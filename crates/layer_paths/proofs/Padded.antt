@@ -1,4 +1,4 @@
--- The zeros behind a short name are those of an array of zeros that the name leaves.
+-- The zeros after a short name are those of an array of zeros that the name does not cover.
 use Rattle.std.proofs.Common.{◌≡◌, ℕ, zero, suc, ◌+◌, ◌-◌, ◌≤◌, drop, ap, arith}
 use Rattle.std.specs.Prelude.{replicate}
 

@@ -1,5 +1,5 @@
--- Equal paths: the test that goes over two paths name by name tells whether they are the same
--- (`same_path_or_not`), as that of two names does.
+-- Equal paths: the test that compares two paths name by name says whether they are the same (`same_path_or_not`), as the test of two names
+-- does.
 use Rattle.std.proofs.Common.{◌≡◌, ◌≢◌, ℕ, ◌⊎◌, inl, inr, List, [], ◌∷◌, refl, true, false, ap, ◌∙◌}
 use Rattle.layer_paths.specs.Rows.{equal_names}
 use Rattle.layer_paths.proofs.Names.{same_or_not}
@@ -8,7 +8,7 @@ use Rattle.layer_paths.proofs.Names.{same_or_not}
 abbrev pub IsSamePathOrNot : List (List ℕ) → List (List ℕ) → Type 0
 IsSamePathOrNot p q = ((p ≡ q) × (equal_names p q ≡ true)) ⊎ ((p ≢ q) × (equal_names p q ≡ false))
 
--- the test of two paths tells whether they are the same
+-- the test of two paths says whether they are the same
 pub same_path_or_not : (p q : List (List ℕ)) → IsSamePathOrNot p q
 same_path_or_not [] [] = inl (refl, refl)
 same_path_or_not [] (n ∷ q) = inr ((λ e. cc), refl)

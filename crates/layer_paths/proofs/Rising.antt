@@ -1,6 +1,5 @@
--- The rows of a branch rise where its names rise and the rows of each of its branches do
--- (`branch_rises`): rows that begin with one name stay in order, and come before those that begin
--- with a later name (`joined`).
+-- The rows of a branch rise if its names rise and the rows of each of its branches do (`branch_rises`): rows that begin with one name stay
+-- in order, and come before those that begin with a later name (`joined`).
 use Rattle.std.proofs.Common.{◌≡◌, ℕ, List, [], ◌∷◌, ◌++◌, refl}
 use Rattle.std.specs.declared.cmp.Ordering.TheVariants.{Less}
 use Rattle.std.specs.Cmp.Lexicographic.{slice_cmp}
@@ -43,7 +42,7 @@ module _ {T : Type 0} where
     joined n xs ss r.1 a q,
   )
 
-  -- the rows of branches rise, where their names do and the rows of each
+  -- the rows of branches rise, if their names do and the rows of each
   pub spread_rises : (ss : List (Subtree T)) → NamesRise ss → AllByRecursion IsRising ss → PathsRise (spread ss)
   spread_rises [] r e = tt
   spread_rises (s ∷ ss) r e =

@@ -1,18 +1,17 @@
--- What a directory has at a path, by its branch of the path's first name (`at_spread`): the rows of
--- other branches begin with other names, so a look-up goes past them (`at_prefixed_other`), and
--- behind the name the branch's own rows are asked for the rest (`here`).
+-- What a directory has at a path, by its branch with the path's first name (`at_spread`): the rows of other branches begin with other
+-- names, so a look-up passes them (`at_prefixed_other`), and after the name the branch's own rows are searched for the rest (`here`).
 use Rattle.std.proofs.Common.{◌≡◌, ◌≢◌, ◌∙◌, sym, ap, subst, ℕ, inl, inr, List, [], ◌∷◌, ◌++◌, refl, Option, Some, None, Bool, true, false}
 use Rattle.std.specs.Prelude.{nat_eq, cond}
 use Rattle.std.specs.Cmp.Lexicographic.{pointwise}
 use Rattle.layer_paths.specs.Rows.{Subtree, prefixed, spread, whole, named, NamesRise, equal_names, at_path}
 use Rattle.layer_paths.proofs.Names.{same_or_not, named_below}
 
--- what the branch that was found has; nothing where none was
+-- what the branch that was found has; nothing if none was
 abbrev pub through : {T : Type 0} → Option (Subtree T) → List (List ℕ) → Option T
 through None rest = None
 through (Some s) rest = at_path (whole s) rest
 
--- the first, or else the second
+-- the first, or otherwise the second
 abbrev or_else : {T : Type 0} → Option T → Option T → Option T
 or_else (Some e) other = Some e
 or_else None other = other

@@ -1,13 +1,12 @@
--- The walk down a tree along a path. Where it stands, the names that are left lead to what the
--- whole path leads to from the top (`IsDown`); to go down to the child of the next name, or to find
--- none, is said by `descend`.
+-- The walk down a tree along a path. Wherever it is, the remaining names lead to what the whole path leads to from the top (`IsDown`);
+-- `descend` says how to go down to the child of the next name, or to find none.
 use Rattle.std.proofs.Common.{◌≡◌, ◌∙◌, sym, ap, ℕ, suc, ◌+◌, ◌<◌, List, [], ◌∷◌, ◌++◌, Option, Bor, map, drop, get_or, length, add-one}
 use Rattle.std.proofs.Math.Seq.{drop-cons}
 use Rattle.std.proofs.lemmas.List.{append-nil}
 use Rattle.layer_paths.specs.Rows.{Subtree, spread, whole, named, NamesRise, at_path, IsUnder}
 use Rattle.layer_paths.proofs.Spread.{through, at_spread}
 
--- the walk stands at the branch `here`, and the names from the i-th on are left
+-- the walk is at the branch `here`, and the names from the i-th on are left
 pub record IsDown {T : Type 0} (rows : List (List (List ℕ) × T)) (path : List (Bor (List ℕ))) (i : ℕ) (here : Subtree T) : Type 0 where
   pub at : (q : List (List ℕ)) → at_path rows (map (λ n. n.now) path ++ q) ≡ at_path (whole here) (map (λ n. n.now) (drop i path) ++ q)
 
@@ -17,8 +16,7 @@ module _ {T : Type 0} where
       → s.below ≡ spread ss → NamesRise ss → named n ss ≡ o → at_path (whole s) (n ∷ rest) ≡ through o rest
   step s ss o n rest e r f = rw (e, at_spread ss r n rest, f)
 
-  -- the path leads to what the child of its i-th name has at the names behind that; with no child,
-  -- nowhere
+  -- the path leads to what the child of its i-th name has at the names after that; without a child, nowhere
   pub descend : (rows : List (List (List ℕ) × T)) (path : List (Bor (List ℕ))) (i : ℕ) (s : Subtree T)
       (ss : List (Subtree T)) (o : Option (Subtree T)) (d : Bor (List ℕ))
       → i < length path → IsDown rows path i s → s.below ≡ spread ss → NamesRise ss

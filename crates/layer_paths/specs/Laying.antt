@@ -2,8 +2,8 @@
 use Rattle.std.specs.Prelude.{◌≡◌, ℕ, List, [], ◌∷◌, ◌++◌, Option, Some, None}
 use Rattle.layer_paths.specs.Rows.{Subtree, spread, whole, at_path, IsRising, IsForest}
 
--- what is at a path if one tree lies on another: f of both values if both have one, else the value
--- of the one that has it
+-- the value at a path if one tree is laid on another: f of both values if both have one, otherwise
+-- the value of the one that has it
 abbrev pub laid_at : {T : Type 0} → (T → T → T) → Option T → Option T → Option T
 laid_at f low None = low
 laid_at f None (Some h) = Some h
@@ -22,13 +22,13 @@ pub record AreLaid {T : Type 0} (f : T → T → T) (lows highs out : List (Subt
   pub at : (n : List ℕ) (path : List (List ℕ)) → at_path (spread out) (n ∷ path)
       ≡ laid_at f (at_path (spread lows) (n ∷ path)) (at_path (spread highs) (n ∷ path))
 
--- the first branch has gone from one list to the end of another one
+-- the first branch is moved from one list to the end of another one
 pub record Passes {T : Type 0} (from from' to to' : List (Subtree T)) : Type 0 where
   pub first : Subtree T
   pub left : from ≡ first ∷ from'
   pub added : to' ≡ to ++ first ∷ []
 
--- the same, with these children in place of the branch's own
+-- the same, with these children instead of the branch's own
 pub record PassesWith {T : Type 0} (children from from' to to' : List (Subtree T))
     : Type 0 where
   pub first : Subtree T
@@ -36,12 +36,12 @@ pub record PassesWith {T : Type 0} (children from from' to to' : List (Subtree T
   pub added : to'
       ≡ to ++ record { name = first.name; value = first.value; below = spread children } ∷ []
 
--- the first branch has gone from a list
+-- the first branch is removed from a list
 pub record DropsFirst {T : Type 0} (from from' : List (Subtree T)) : Type 0 where
   pub first : Subtree T
   pub left : from ≡ first ∷ from'
 
--- the children have been taken from the first branch of a list
+-- the children are taken from the first branch of a list
 pub record TakesChildren {T : Type 0} (from from' children : List (Subtree T)) : Type 0 where
   pub first : Subtree T
   pub rest : List (Subtree T)
@@ -50,7 +50,7 @@ pub record TakesChildren {T : Type 0} (from from' children : List (Subtree T)) :
   pub below : first.below ≡ spread children
   pub forest : IsForest children
 
--- the first branches have gone from two lists, and both is the high one laid on the low one
+-- the first branches are removed from two lists, and both is the high one laid on the low one
 pub record CoversFirst {T : Type 0} (f : T → T → T)
     (lows lows' highs highs' : List (Subtree T)) (both : Subtree T) : Type 0 where
   pub low : Subtree T

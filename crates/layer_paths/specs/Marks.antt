@@ -13,7 +13,7 @@ abbrev pub cuts_itself : Option Mark → Bool
 cuts_itself None = false
 cuts_itself (Some m) = m.cut
 
--- whether it cuts all that is below the path
+-- whether it cuts everything below the path
 abbrev pub cuts_below : Option Mark → Bool
 cuts_below None = false
 cuts_below (Some m) = m.cut || m.opaque
@@ -28,11 +28,11 @@ abbrev pub marked : {T : Type 0} → (T → Mark) → List (List (List ℕ) × T
     → Option Mark
 marked m rows path = option_map m (at_path rows path)
 
--- what an entry removes: its path with all below it, unless it is a directory
+-- what an entry removes: its path with everything below it, unless it is a directory
 abbrev pub mark_of : Entry → Mark
 mark_of entry = record { cut = not (is_directory entry.kind); opaque = false }
 
--- whether entries at paths that are no directories remove a path
+-- whether entries that are not directories remove a path
 abbrev pub covered_by : (List (List ℕ) → Option Entry) → List (List ℕ) → Bool
 covered_by entries path = cut_by (λ q. option_map mark_of (entries q)) path
 
@@ -41,7 +41,7 @@ abbrev pub removed_by : (List (List ℕ) → Option Mark) → (List (List ℕ) �
     → List (List ℕ) → Bool
 removed_by marks entries path = cut_by marks path || covered_by entries path
 
--- whether no name of the path is a marker's
+-- whether no name of the path is that of a marker
 abbrev pub is_plain : List (List ℕ) → Bool
 is_plain path = list_all (λ name. not (starts_with nat_eq name marker)) path
 

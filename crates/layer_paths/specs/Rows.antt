@@ -1,5 +1,5 @@
--- Trees seen as rows: a value at each path. Names are lists of bytes, and a path is the list of
--- names from the root.
+-- Trees as rows: a value at each path. Names are lists of bytes, and a path is the list of names
+-- from the root.
 use Rattle.std.specs.Prelude.{◌≡◌, ℕ, ◌+◌, ◌<◌, ◌≤◌, List, [], ◌∷◌, ◌++◌, length, max, Bool, Option, Some, None, MatchOption, nat_eq, slice_index_or, if◌then◌else◌}
 use Rattle.std.specs.Borrow.{Bor}
 use Rattle.std.specs.Cmp.Lexicographic.{slice_cmp, pointwise}
@@ -34,7 +34,7 @@ spread (s ∷ ss) = (s.name ∷ [], s.value) ∷ prefixed s.name s.below ++ spre
 abbrev pub whole : {T : Type 0} → Subtree T → List (List (List ℕ) × T)
 whole s = ([], s.value) ∷ s.below
 
--- by their bytes
+-- in the order of their bytes
 abbrev pub name_cmp : List ℕ → List ℕ → Ordering
 name_cmp = slice_cmp nat_cmp
 
@@ -57,7 +57,7 @@ pub record IsForest {T : Type 0} (ss : List (Subtree T)) : Type 0 where
   pub names : NamesRise ss
   pub each : AllByRecursion IsRising ss
 
--- the first branch of that name
+-- the first branch with that name
 abbrev pub named : {T : Type 0} → List ℕ → List (Subtree T) → Option (Subtree T)
 named n [] = None
 named n (s ∷ ss) = if pointwise nat_eq s.name n then Some s else named n ss
@@ -89,12 +89,12 @@ abbrev pub at_path : {T : Type 0} → List (List (List ℕ) × T) → List (List
 at_path [] path = None
 at_path (x ∷ xs) path = if equal_names x.0 path then Some x.1 else at_path xs path
 
--- these rows are what the others have below the path and at it, by paths from it
+-- these rows are those that the others have at the path and below it, by paths from it
 pub record IsUnder {T : Type 0} (rows : List (List (List ℕ) × T)) (path : List (List ℕ))
     (under : List (List (List ℕ) × T)) : Type 0 where
   pub at : (q : List (List ℕ)) → at_path rows (path ++ q) ≡ at_path under q
 
--- with a name put before each path there are as many rows
+-- if a name is put before each path there are as many rows
 pub length_prefixed : {T : Type 0} (n : List ℕ) (xs : List (List (List ℕ) × T))
     → length (prefixed n xs) ≡ length xs
 length_prefixed n [] = omega arith

@@ -20,22 +20,22 @@ pub record TreeRows : Type 0 where
 abbrev pub entry_at : TreeRows → Path → Option Entry
 entry_at t path = at_path t.entries path
 
--- whether marks of the tree, or entries that are no directories, remove the path from what lies
+-- whether marks of the tree, or entries that are not directories, remove the path from the layers
 -- below
 abbrev pub removes : TreeRows → Path → Bool
 removes t path = removed_by (at_path t.marks) (at_path t.entries) path
 
--- whether the tree removes the path from what lies below; never a path with a marker's name
+-- whether the tree removes the path from the layers below; never a path with a marker's name
 abbrev pub cuts_at : TreeRows → Path → Bool
 cuts_at t path = is_plain path && removes t path
 
--- the children of a directory, in the order of their names, with all that is below them
+-- the children of a directory, in the order of their names, with everything below them
 pub record AreChildren (t : TreeRows) (path : Path) (children : List (Subtree Entry)) : Type 0 where
   pub forest : IsForest children
   pub at : (name : List ℕ) (q : Path)
       → entry_at t (path ++ name ∷ q) ≡ at_path (spread children) (name ∷ q)
 
--- the entry of a header that ends all hard links, in a layer
+-- the entry of a header where hard links end, in a layer
 abbrev pub entry_of : ℕ → Head → Entry
 entry_of layer head = record {
   kind = head.kind;
@@ -51,7 +51,7 @@ abbrev pub IsReadIn : List ℕ → Entry → Type 0
 IsReadIn a entry = entry ≡ entry_of entry.place.layer (head_of a entry.place.header)
 
 -- the entry of the header h in layer i of a run whose lowest layer is the first: it has the place
--- of the header where hard links from h end, and says what that says
+-- of the header where hard links from h end, and says what that header says
 pub record IsEntryOf (first : ℕ) (layers : List (List ℕ)) (i h : ℕ) (entry : Entry) : Type 0 where
   pub layer : entry.place.layer ≡ first + i
   pub end : (a : List ℕ) × (slice_get layers i ≡ Some a) × IsFinal a h entry.place.header
@@ -67,10 +67,10 @@ pub record IsTreeOf (first : ℕ) (layers : List (List ℕ)) (t : TreeRows) : Ty
       → (i h : ℕ) × Shows layers path i h × IsEntryOf first layers i h entry
   pub cuts : (path : Path) → IsTrue (cuts_at t path) ↔ IsCut layers path
 
--- an entry as the listing of a stack has it
+-- an entry, in the form of a stack's listing
 abbrev pub listed : List (List ℕ) × Entry → Listed
 listed row = record { path = row.0; layer = row.1.place.layer; header = row.1.place.header }
 
--- a tree's entries as the listing of a stack has them
+-- a tree's entries, in the form of a stack's listing
 abbrev pub listing : TreeRows → List Listed
 listing t = map listed t.entries

@@ -1,4 +1,4 @@
-//! A branch of a tree, and what is found below it.
+//! A branch of a tree, and the branches below it.
 
 ghost use Rattle.std.specs.Prelude.{◌≡◌, ◌<◌, [], length, map, MatchOption, MatchResult};
 ghost use Rattle.layer_paths.specs.Rows.{spread, whole, name_cmp, NamesRise, IsForest, IsFirstNamed, IsPlaceOf, IsGapFor, IsUnder};
@@ -34,7 +34,7 @@ impl<T: Copy + Drop, A: Allocator> Model for Branch<T, A> {
 }
 
 impl<T: Copy + Drop, A: Allocator> Branch<T, A> {
-    /// A branch of its parts.
+    /// A branch from its parts.
     pub fn new(name: Name<A>, value: T, children: Vec<Branch<T, A>, A>) -> Branch<T, A>
         requires { IsForest children.items }
         ensures { result ≡ record { name = name; value = value; below = spread children.items } }
@@ -109,7 +109,7 @@ impl<T: Copy + Drop, A: Allocator> Branch<T, A> {
 }
 
 impl<T: Copy + Drop, A: Allocator + Copy> Branch<T, A> {
-    /// Takes the children; the branch stays without any.
+    /// Takes the children; the branch keeps none.
     pub fn take_children(&mut self, alloc: A) -> Vec<Branch<T, A>, A>
         ensures left { self.new
             ≡ record { name = self.old.name; value = self.old.value; below = [] } }
@@ -119,7 +119,7 @@ impl<T: Copy + Drop, A: Allocator + Copy> Branch<T, A> {
         mem::replace(&mut self.children, Vec::new(alloc))
     }
 
-    /// Puts children in place of the branch's own.
+    /// Replaces the children of the branch.
     pub fn set_children(&mut self, children: Vec<Branch<T, A>, A>)
         requires { IsForest children.items }
         ensures { self.new ≡ record {
@@ -131,7 +131,7 @@ impl<T: Copy + Drop, A: Allocator + Copy> Branch<T, A> {
         self.children = children;
     }
 
-    /// A copy of the branch's name. `AllocError` only if memory was refused for a name of more than
+    /// A copy of the branch's name. `AllocError` only if memory is refused for a name of more than
     /// 22 bytes.
     pub fn copy_name(&self, alloc: A) -> Result<Name<A>, AllocError>
         ensures { MatchResult result
@@ -141,7 +141,7 @@ impl<T: Copy + Drop, A: Allocator + Copy> Branch<T, A> {
     }
 }
 
-/// The branch of that name, by binary search; none if none has it.
+/// The branch with that name, by binary search; none if no branch has it.
 pub fn child<'a, T: Copy + Drop, A: Allocator>(
     children: &'a [Branch<T, A>],
     name: &[u8],
@@ -155,7 +155,7 @@ pub fn child<'a, T: Copy + Drop, A: Allocator>(
     }
 }
 
-/// The place of the branch of that name, by binary search; if there is none, the place where it
+/// The place of the branch with that name, by binary search; if there is none, the place where it
 /// would be.
 pub fn place<T: Copy + Drop, A: Allocator>(
     children: &[Branch<T, A>],

@@ -1,4 +1,4 @@
-//! What a path has: an entry with its place, or a mark.
+//! Values of paths: an entry with its place, or a mark.
 
 ghost use Rattle.std.specs.Prelude.{◌≡◌};
 ghost use Rattle.stack_model.specs.Attributes.{is_directory};
@@ -6,16 +6,16 @@ ghost use Rattle.stack_model.specs.Attributes.{is_directory};
 use crate::Lay;
 use romfs_format::Kind;
 
-/// The place of an entry: a layer, counted from 0, the lowest, and the offset of a header in its
-/// image, after hard links.
+/// The place of an entry: a layer, counted from 0, the lowest, and the offset of a header in the
+/// layer's image, after hard links.
 #[derive(Clone, Copy, PartialEq, Eq, Drop)]
 pub struct Place {
     pub layer: u16,
     pub header: u32,
 }
 
-/// What a path shows: its place, and what the header there says about its file, so it is not read
-/// again.
+/// What a path shows: its place, and what the header there says about its file, so the header is
+/// not read again.
 #[derive(Clone, Copy, PartialEq, Eq, Drop)]
 pub struct Entry {
     /// The kind of the header; never a hard link.
@@ -27,16 +27,16 @@ pub struct Entry {
     pub spec: u32,
     /// The size of its data, in bytes.
     pub size: u32,
-    /// The length of the header's own name, which its data follow.
+    /// The length of the header's own name, which precedes its data.
     pub name_len: u32,
 }
 
 /// What layers remove from those below them (OCI image specification, layer chapter, "Whiteouts").
 #[derive(Clone, Copy, Drop)]
 pub struct Mark {
-    /// The path itself, with all below it.
+    /// The path itself and everything below it.
     pub cut: bool,
-    /// All that is below the path.
+    /// Everything below the path.
     pub opaque: bool,
 }
 

@@ -10,11 +10,11 @@ use std::alloc::{AllocError, Allocator};
 use std::cmp::Ordering;
 use std::collections::VecDeque;
 
-/// A tree laid on another one. At each path it has the values of both, one laid on the other; if
-/// only one has a value, that one. The name is that of the upper tree.
+/// One tree laid on another. At each path the result has the values of both, one laid on the other;
+/// if only one tree has a value, that one. Names are those of the upper tree.
 ///
-/// Directories of both are merged child by child; what only one has is moved unread. `AllocError`
-/// only if memory was refused; both trees are then lost.
+/// Directories of both trees are merged child by child; what only one has is moved without being
+/// read. `AllocError` only if memory is refused; both trees are then dropped.
 pub fn cover<T: Lay, A: Allocator + Copy>(
     alloc: A,
     low: Branch<T, A>,
@@ -28,8 +28,8 @@ pub fn cover<T: Lay, A: Allocator + Copy>(
     Ok(Branch::new(name, T::lay(below, above), children))
 }
 
-/// The branches of a directory, laid on those of another one. `AllocError` only if memory was
-/// refused; the branches of both are then lost.
+/// The branches of a directory, laid on those of another one. `AllocError` only if memory is
+/// refused; the branches of both are then dropped.
 #[cycle(laying)]
 pub fn merge<T: Lay, A: Allocator + Copy>(
     alloc: A,
@@ -80,7 +80,7 @@ fn cover_first<T: Lay, A: Allocator + Copy>(
     Ok(Branch::new(name, T::lay(below, above), children))
 }
 
-/// Adds all that is left of branches.
+/// Adds all remaining branches.
 #[inline(never)]
 fn append<T: Copy + Drop, A: Allocator>(
     out: &mut Vec<Branch<T, A>, A>,

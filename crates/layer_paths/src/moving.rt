@@ -1,7 +1,7 @@
-//! Branches that go from a list to the end of another one.
+//! Branches that are moved from one list to the end of another.
 //!
-//! The recursions over trees call these, and none of them is inlined: so what they need of the
-//! stack is not held on each level of a deep tree.
+//! The recursions over trees call these functions. None of them is inlined: their stack frames are
+//! then not part of each level of a deep tree.
 
 ghost use Rattle.std.specs.Prelude.{◌≡◌, ◌<◌, [], ◌∷◌, ◌++◌, length, OnOk};
 ghost use Rattle.layer_paths.specs.Rows.{spread, IsForest};
@@ -13,7 +13,7 @@ use std::collections::VecDeque;
 
 /// Moves the first branch of a list to the end of another one.
 ///
-/// `AllocError` only if memory was refused; both lists are unspecified then.
+/// `AllocError` only if memory is refused; both lists are unspecified then.
 #[inline(never)]
 pub fn pass_first<T: Copy + Drop, A: Allocator>(
     from: &mut VecDeque<Branch<T, A>, A>,
@@ -27,10 +27,10 @@ pub fn pass_first<T: Copy + Drop, A: Allocator>(
     Ok(())
 }
 
-/// Moves the first branch of a list to the end of another one, with these children in place of its
+/// Moves the first branch of a list to the end of another one, with these children instead of its
 /// own.
 ///
-/// `AllocError` only if memory was refused; both lists are unspecified then.
+/// `AllocError` only if memory is refused; both lists are unspecified then.
 #[inline(never)]
 pub fn pass_with<T: Copy + Drop, A: Allocator>(
     from: &mut VecDeque<Branch<T, A>, A>,
@@ -56,7 +56,7 @@ pub fn drop_first<T: Copy + Drop, A: Allocator>(from: &mut VecDeque<Branch<T, A>
     take_first(from);
 }
 
-/// Takes the children of the first branch of a list; the branch stays there without any.
+/// Takes the children of the first branch of a list, which keeps none.
 #[inline(never)]
 pub fn take_children<T: Copy + Drop, A: Allocator + Copy>(
     alloc: A,
@@ -86,9 +86,9 @@ pub(crate) fn take_first<T: Copy + Drop, A: Allocator>(
     first.into_parts()
 }
 
-/// Adds a branch of its parts to the end of a list.
+/// Adds a branch, made from its parts, to the end of a list.
 ///
-/// `AllocError` only if memory was refused; the list is unspecified then.
+/// `AllocError` only if memory is refused; the list is unspecified then.
 #[inline(never)]
 fn add_last<T: Copy + Drop, A: Allocator>(
     to: &mut Vec<Branch<T, A>, A>,

@@ -1,4 +1,4 @@
-//! Names that need no allocation while they are short.
+//! Names that need no allocation if they are short.
 
 ghost use Rattle.std.specs.Prelude.{◌≡◌, ◌<◌, ◌≤◌, length, MatchOption, MatchResult};
 ghost use Rattle.layer_paths.specs.Padded.{IsPadded};
@@ -9,8 +9,8 @@ use std::marker::Model;
 /// How many bytes the value itself holds.
 const MOST: usize = 22;
 
-/// A name of any length. It takes 24 bytes, and an allocation only if it has more than 22. A clause
-/// sees its bytes.
+/// A name of any length. It takes 24 bytes, and an allocation only if it has more than 22. A
+/// contract sees its bytes.
 #[derive(Drop)]
 pub struct Name<A: Allocator> {
     bytes: Bytes<A>,
@@ -30,7 +30,7 @@ impl<A: Allocator> Model for Name<A> {
 }
 
 impl<A: Allocator + Copy> Name<A> {
-    /// An owned name. `AllocError` only if memory was refused for a name of more than 22 bytes.
+    /// An owned name. `AllocError` only if memory is refused for a name of more than 22 bytes.
     pub fn of(alloc: A, name: &[u8]) -> Result<Name<A>, AllocError>
         ensures { MatchResult result (λ own. own ≡ name.now) (λ _. 22 < length name.now) }
     {
@@ -42,7 +42,7 @@ impl<A: Allocator + Copy> Name<A> {
         Ok(Name { bytes })
     }
 
-    /// A copy. `AllocError` only if memory was refused for a name of more than 22 bytes.
+    /// A copy. `AllocError` only if memory is refused for a name of more than 22 bytes.
     pub fn copied(&self, alloc: A) -> Result<Name<A>, AllocError>
         ensures { MatchResult result (λ own. own ≡ self.now) (λ _. 22 < length self.now) }
     {
@@ -65,7 +65,7 @@ impl<A: Allocator> Name<A> {
         }
     }
 
-    /// The bytes of a name of at most 22, with zeros behind them up to 22; none of a longer name.
+    /// The bytes of a name of at most 22, padded with zeros to 22; none of a longer name.
     pub fn padded(&self) -> Option<&[u8; 22]>
         ensures { MatchOption result (22 < length self.now)
             (λ padded. IsPadded self.now padded.now) }
@@ -83,7 +83,7 @@ enum Bytes<A: Allocator> {
     There(Box<Vec<u8, A>, A>),
 }
 
-/// A name of at most 22 bytes, with zeros behind it.
+/// A name of at most 22 bytes, followed by zeros.
 #[derive(Drop)]
 struct Short {
     len: u8,

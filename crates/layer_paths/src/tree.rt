@@ -12,10 +12,10 @@ use crate::{Branch, child};
 use std::alloc::{Allocator, Global};
 use std::marker::Model;
 
-// The names of markers begin with this.
+// The prefix of all names of markers.
 const MARKER: &[u8; 4] = b".wh.";
 
-/// An entry with its name, and all below it in the order of names.
+/// An entry with its name, and everything below it in the order of names.
 pub type Child<A> = Branch<Entry, A>;
 
 const _: () = prove!(size_of::<Child<Global>>() <= 72);
@@ -42,7 +42,7 @@ impl<A: Allocator> Model for Tree<A> {
 }
 
 impl<A: Allocator> Tree<A> {
-    /// The root, whose name is empty, with all below it.
+    /// The root, whose name is empty, with everything below it.
     pub fn root(&self) -> &Child<A>
         ensures { self.now.entries ≡ whole result.now }
     {
@@ -60,7 +60,8 @@ impl<A: Allocator> Tree<A> {
         }
     }
 
-    /// The entries in a directory, in the order of their names; none if the path is no directory.
+    /// The entries in a directory, in the order of their names; none if the path is not a
+    /// directory.
     pub fn children(&self, path: &[&[u8]]) -> &[Child<A>]
         ensures { AreChildren self.now (map (λ name. name.now) path.now) result.now }
     {
@@ -70,7 +71,7 @@ impl<A: Allocator> Tree<A> {
         }
     }
 
-    /// Whether the run removes a path from what lies below it. It never removes the root, nor a
+    /// Whether the run removes a path from the layers below it. It never removes the root, nor a
     /// path with a marker's name.
     pub fn cuts(&self, path: &[&[u8]]) -> bool
         ensures { result ≡ cuts_at self.now (map (λ name. name.now) path.now) }
@@ -79,14 +80,14 @@ impl<A: Allocator> Tree<A> {
     }
 }
 
-/// Whether a name is a marker's.
+/// Whether a name is that of a marker.
 pub fn is_marker(name: &[u8]) -> bool
     ensures { result ≡ starts_with nat_eq name.now marker }
 {
     name.starts_with(MARKER)
 }
 
-// Whether no name of a path is a marker's.
+// Whether no name of a path is that of a marker.
 fn is_plain(path: &[&[u8]]) -> bool
     ensures { result ≡ is_plain (map (λ name. name.now) path.now) }
 {

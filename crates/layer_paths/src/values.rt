@@ -6,7 +6,7 @@ ghost use Rattle.std.specs.Prelude.{◌≡◌};
 pub trait Lay: Copy + Drop {
     ghost laid: { Self → Self → Self };
 
-    /// What a path has if the lower tree has the first value there and the upper one the second.
+    /// The value of a path where the lower tree has the first value and the upper tree the second.
     fn lay(low: Self, high: Self) -> Self
         ensures { result ≡ laid low high };
 }

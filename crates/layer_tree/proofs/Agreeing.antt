@@ -1,6 +1,5 @@
--- Two trees of one run have the same entries and cut the same. A tree shows and cuts exactly what
--- its run does, and a header has one entry in a run (one_entry): so the two tell the same at each
--- path.
+-- Two trees of one run have the same entries and cut the same. A tree shows and cuts exactly what its run does, and a header has one entry
+-- in a run (one_entry): so both have the same at each path.
 use Rattle.std.proofs.Common.{◌≡◌, ◌∙◌, sym, ap, subst, ℕ, List, refl, Option, Some, None, Bool, true, false}
 use Rattle.romfs_format.specs.Heads.{head_of}
 use Rattle.romfs_format.specs.Links.{IsFinal}

@@ -1,6 +1,6 @@
--- The branches of a directory's members, and the marks of its markers. Building and Whitening are
--- the loops that make them. What they end with is in the order of names (forests, white_forest),
--- and what a name has there comes of the member or marker of that name (find_built, find_white).
+-- The branches of a directory's members, and the marks of its markers. Building and Whitening are the loops that make them. Their results
+-- are in the order of names (forests, white_forest), and what a name has in them comes from the member or marker of that name (find_built,
+-- find_white).
 use Rattle.std.proofs.Common.{◌≡◌, ◌≢◌, ◌∙◌, sym, ap, subst, ℕ, zero, suc, ◌+◌, ◌-◌, ◌<◌, ◌≤◌, inl, inr, List, [], ◌∷◌, ◌++◌, append_assoc, length, length-append, get_or, drop, refl, arith, add-one, Option, Some, None, true, false}
 use Rattle.std.specs.Prelude.{slice_get, option_to_list}
 use Rattle.std.specs.List.{AllByRecursion}
@@ -33,7 +33,7 @@ pub record Building (a : List ℕ) (layer : ℕ) (all left : List NamedMember) (
   pub more : (es' : List (Subtree Entry)) (ks' : List (Subtree Mark)) → AreBuilt a layer left es' ks'
       → AreBuilt a layer all (es ++ es') (ks ++ ks')
 
--- the same of the marks of markers
+-- the same for the marks of markers
 pub record Whitening (all left : List NamedMember) (ks : List (Subtree Mark)) : Type 0 where
   pub more : (ks' : List (Subtree Mark)) → AreWhiteouts left ks' → AreWhiteouts all (ks ++ ks')
 
@@ -45,7 +45,7 @@ building_begun a layer all = record { more = λ es ks b. b }
 pub whitening_begun : (all : List NamedMember) → Whitening all all []
 whitening_begun all = record { more = λ ks b. b }
 
--- what is past the end of members
+-- what is after the end of members
 abbrev pub nothing : NamedMember
 nothing = record {
   name = [];
@@ -56,11 +56,11 @@ nothing = record {
 abbrev pub at_index : List NamedMember → ℕ → NamedMember
 at_index all i = get_or all i nothing
 
--- the place of a member past the end of members
+-- the place of a member after the end of members
 abbrev pub nowhere_kept : KeyedMember
 nowhere_kept = record { key = 0; offset = 0; name_len = 0 }
 
--- the member at a place is the one whose header stands at that place of the list
+-- the member at a place is the one whose header is at that place of the list
 pub at_place : (a : List ℕ) (ms : List KeyedMember) (i : ℕ) → i < length ms
     → at_index (members_in a ms) i ≡ member_in a (get_or ms i nowhere_kept)
 at_place a ms i l = get_or-map (member_in a) ms i nowhere_kept nothing l
@@ -107,7 +107,7 @@ module _ (a : List ℕ) (layer : ℕ) (all : List NamedMember) (i : ℕ) (es : L
         (rw (next all i l) (built (at_index all i) (drop (i + 1) all) e es'' k ks'' n b c))));
   }
 
-  -- a member and what is made of it are one more built
+  -- a member and what is made from it are one more built
   pub build_made : (e : Subtree Entry) (o : Option (Subtree Mark)) (es' : List (Subtree Entry)) (ks' : List (Subtree Mark))
       → ¬ IsMarker (at_index all i).name
       → IsMadeOf a layer (at_index all i).head.offset (at_index all i).name (e, o) → es' ≡ es ++ e ∷ []
@@ -115,7 +115,7 @@ module _ (a : List ℕ) (layer : ℕ) (all : List NamedMember) (i : ℕ) (es : L
   build_made e None es' ks' n m p q = rw (q, append-nil) (build_alone e es' n m p)
   build_made e (Some k) es' ks' n m p q = build_one e k es' ks' n m p q
 
--- past the last member all are built
+-- after the last member all are built
 pub building_ended : (a : List ℕ) (layer : ℕ) (all : List NamedMember) (i : ℕ) (es : List (Subtree Entry)) (ks : List (Subtree Mark))
     → length all ≤ i → Building a layer all (drop i all) es ks → AreBuilt a layer all es ks
 building_ended a layer all i es ks l w =
@@ -123,11 +123,11 @@ building_ended a layer all i es ks l w =
     subst (λ x. AreBuilt a layer all es x) (append-nil ks) (subst (λ x. AreBuilt a layer all x (ks ++ [])) (append-nil es) (w.more [] [] b))
 
 module _ (all : List NamedMember) (i : ℕ) (ks : List (Subtree Mark)) (l : i < length all) (w : Whitening all (drop i all) ks) where
-  -- a member that is no marker adds no mark
+  -- a member that is not a marker adds no mark
   pub white_none : ¬ IsMarker (at_index all i).name → Whitening all (drop (i + 1) all) ks
   white_none h = record { more = λ ks' b. w.more ks' (rw (next all i l) (other (at_index all i) (drop (i + 1) all) ks' h b)) }
 
-  -- a marker adds a cut mark, named as its name goes on after .wh.
+  -- a marker adds a cut mark, with the rest of its name after .wh.
   pub white_one : (n : List ℕ) (k : Subtree Mark) (ks' : List (Subtree Mark))
       → (at_index all i).name ≡ marker ++ n → k ≡ record
       { name = n; value = record { cut = true; opaque = false }; below = [] } → ks' ≡ ks ++ k ∷ []
@@ -140,7 +140,7 @@ module _ (all : List NamedMember) (i : ℕ) (ks : List (Subtree Mark)) (l : i < 
         (ap (λ (x : Subtree Mark). x.below) f) c))));
   }
 
--- past the last member all markers have marks
+-- after the last member all markers have marks
 pub whitening_ended : (all : List NamedMember) (i : ℕ) (ks : List (Subtree Mark)) → length all ≤ i → Whitening all (drop i all) ks
     → AreWhiteouts all ks
 whitening_ended all i ks l w = subst (AreWhiteouts all) (append-nil ks) (w.more [] (rw (drop_all i all l) none_white))
@@ -162,7 +162,7 @@ module _ (a : List ℕ) (s : IsImage a) (left : ℕ) (ms : List NamedMember) (at
   unfolding longer
   long_more = omega (arith, length-append at.2.0 ((at_index ms i).name ∷ []), at.2.2)
 
-  -- a path to the directory leaves room for a name more
+  -- a path to the directory leaves room for one more name
   pub some_left : 1 ≤ left
   some_left = omega (arith, short a s longer (at_index ms i).head.offset has_more, long_more)
 
@@ -188,7 +188,7 @@ built_fewer a layer (hidden m ms es ks h b) = omega (arith, built_fewer a layer 
 built_fewer a layer (alone m ms e es ks n w b) = omega (arith, built_fewer a layer b)
 built_fewer a layer (built m ms e es k ks n w b) = omega (arith, built_fewer a layer b)
 
--- where all members have branches none is a marker
+-- if all members have branches none is a marker
 pub no_markers : (a : List ℕ) (layer : ℕ) {ms : List NamedMember} {es : List (Subtree Entry)} {ks : List (Subtree Mark)}
     → AreBuilt a layer ms es ks → length es ≡ length ms → AreWhiteouts ms []
 no_markers a layer none_built l = none_white
@@ -290,7 +290,7 @@ module _ (a : List ℕ) (layer d : ℕ) (n : List ℕ) where
         (let g : named n (k ∷ ks) ≡ named n ks = rw (w.mark_name, x.1) refl in g) (find_built b p.1 r.1)
   ]
 
--- a mark of the name n, and the marker that it is of
+-- a mark with the name n, and the marker that it comes from
 pub data FoundWhite (n : List ℕ) (ms : List NamedMember) (ks : List (Subtree Mark)) : Type 0 where
   unmarked : named n ks ≡ None → ((j : ℕ) (m : NamedMember) → slice_get ms j ≡ Some m → m.name ≡ marker ++ n → ⊥) → FoundWhite n ms ks
   marked : (j : ℕ) (m : NamedMember) (k : Subtree Mark) → named n ks ≡ Some k → k.value.cut ≡ true

@@ -1,6 +1,5 @@
--- The members of a directory differ in their names, and sorted they are in the order of these. The
--- main lemma is are_by_name, of all members of a directory: each has a name (has_name), no two have
--- the same (names_differ), and sorting loses none (of_head).
+-- The members of a directory differ in their names, and sorting puts them in the order of these. The main lemma is are_by_name, about all
+-- members of a directory: each has a name (has_name), no two have the same (names_differ), and sorting loses none (of_head).
 use Rattle.std.proofs.Common.{◌≡◌, ◌≢◌, ◌∙◌, sym, ap, subst, ℕ, zero, suc, ◌<◌, inl, inr, true, false, not, List, [], ◌∷◌, ◌++◌, append_assoc, length, take, drop, map, refl, arith, All, Some, None, Option, IsSome}
 use Rattle.std.specs.Prelude.{nat_eq, slice_get, unwrap_or}
 use Rattle.std.specs.Cmp.Lexicographic.{same_text}
@@ -37,7 +36,7 @@ use Rattle.layer_tree.specs.declared.members.KeyedMember.{KeyedMember}
 use Rattle.layer_tree.specs.Members.{NamedMember, member_in, members_in, IsByName}
 use Rattle.layer_tree.specs.Reading.{IsBefore, NamedRise, IsNamedMember, AreByName}
 
--- a member goes from what is left to what has a key
+-- a member moves from those that are left to those that have a key
 pub found_one : (a : List ℕ) (ms after : List KeyedMember) (x : KeyedMember) (head : Head) (left rest all : List Head)
     → left ≡ head ∷ rest → after ≡ ms ++ x ∷ [] → head ≡ head_of a x.offset
     → map (λ m. head_of a m.offset) ms ++ left ≡ all → map (λ m. head_of a m.offset) after ++ rest ≡ all

@@ -1,5 +1,5 @@
--- The children of a directory are what is one name below it: child_entry says so of one tree. As
--- two trees of one run have the same entries, so have their children (same_children).
+-- The children of a directory are the paths one name below it: child_entry says so for one tree. As two trees of one run have the same
+-- entries, so have their children (same_children).
 use Rattle.std.proofs.Common.{◌≡◌, ◌∙◌, sym, ℕ, List, [], ◌∷◌, ◌++◌, refl, Option, Some, None}
 use Rattle.stack_model.specs.Stack.{Path}
 use Rattle.layer_paths.specs.Rows.{Subtree, spread, named, at_path}
@@ -10,7 +10,7 @@ use Rattle.layer_tree.specs.Merging.{value_of}
 use Rattle.layer_tree.proofs.Agreeing.{same_entries}
 
 module _ (t : TreeRows) (path : Path) (children : List (Subtree Entry)) (are : AreChildren t path children) where
-  -- a name is a child's exactly where something is shown one name below
+  -- a name is a child's exactly if something is shown one name below
   pub child_entry : (name : List ℕ) → value_of (named name children) ≡ entry_at t (path ++ name ∷ [])
   child_entry name = sym (are.at name [] ∙ at_spread children are.forest.names name [] ∙ here (named name children))
     where

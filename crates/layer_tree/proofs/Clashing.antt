@@ -1,6 +1,5 @@
--- The marks of clashes, and what they are for. IsClashing is the loop over the files of a
--- directory, Clashing what it makes of each, are_clashes what that is for all. By the marks,
--- what_is_left of the lower tree is known, and what_both_remove.
+-- The marks of clashes, and their use. IsClashing is the loop over the files of a directory, Clashing what it makes of each, are_clashes
+-- what that is for all. From the marks follows what is left of the lower tree (what_is_left), and what both remove (what_both_remove).
 use Rattle.std.proofs.Common.{◌≡◌, ◌∙◌, sym, ap, subst, ℕ, ◌+◌, ◌*◌, ◌<◌, ◌≤◌, ◌⊎◌, inl, inr, List, [], ◌∷◌, ◌++◌, append_assoc, length, refl, arith, Option, Some, None, Bool, true, false, ◌||◌, not}
 use Rattle.std.proofs.lemmas.Bool.{not-false, or_cases, or_left, or_right}
 use Rattle.std.proofs.lemmas.List.{append-nil}
@@ -41,18 +40,18 @@ module _ (f f' o o' c c' : Path → Option Mark) (ef : (q : Path) → f q ≡ f'
         })
       ]
 
--- marks that cut nothing may be left away
+-- marks that cut nothing may be left out
 pub clash_without : (f o c : Path → Option Mark) → ((path : Path) → cut_by c path ≡ false) → Clash f o c → Clash f o (λ q. None)
 clash_without f o c none w = record {
   sound = λ path e. absurd (let x = nothing_cut path in cc);
   whole = λ q e. elim (w.whole q e) [ inl x ↦ absurd (let y = none q in cc) | inr l ↦ inr l ];
 }
 
--- where there are no files, nothing clashes
+-- if there are no files, nothing clashes
 pub no_files : (o : Path → Option Mark) → Clash (λ q. None) o (λ q. None)
 no_files o = record { sound = λ path e. absurd (let x = nothing_cut path in cc); whole = λ q e. absurd (cc) }
 
--- where there is nothing else, no file clashes
+-- if there is nothing else, no file clashes
 pub no_others : (f : Path → Option Mark) → Clash f (λ q. None) (λ q. None)
 no_others f = record {
   sound = λ path e. absurd (let x = nothing_cut path in cc);
@@ -60,7 +59,7 @@ no_others f = record {
 }
 
 module _ {T : Type 0} (m : T → Mark) where
-  -- a cut mark stands for what cuts itself, whatever it clashes with
+  -- a cut mark represents what cuts itself, whatever it clashes with
   pub file_marked : (f o : Subtree T) (n : List ℕ) (mark : Mark) → mark.cut ≡ true → (m f.value).cut ≡ true
       → Clash (marked m (whole f)) (marked m (whole o)) (at_path (whole (record { name = n; value = mark; below = [] })))
   file_marked f o n mark cut file = record {
@@ -68,7 +67,7 @@ module _ {T : Type 0} (m : T → Mark) where
     whole = λ q e. inl ((all_cut (record { name = n; value = mark; below = [] }) cut).cut q);
   }
 
-  -- where the other one is a leaf, none is needed
+  -- if the other one is a leaf, none is needed
   pub file_alone : (f o : Subtree T) → IsBare m o → Clash (marked m (whole f)) (marked m (whole o)) (λ q. None)
   file_alone f o bare = record { sound = λ path e. absurd (let x = nothing_cut path in cc); whole = λ q e. inr (leaf q) }
     where
@@ -79,7 +78,7 @@ module _ {T : Type 0} (m : T → Mark) where
       leaf [] = record { itself = ap not bare.itself; below = below }
       leaf (n ∷ q) = record { itself = ap is_uncut (below n q); below = λ k p. below n (q ++ k ∷ p) }
 
-  -- two branches of which the first does not cut itself clash where those below them do
+  -- two branches of which the first does not cut itself clash if those below them do
   pub folders : (f o : Subtree T) (fs os : List (Subtree T)) (ks : List (Subtree Mark)) (n : List ℕ) (mark : Mark)
       → f.below ≡ spread fs → o.below ≡ spread os → (m f.value).cut ≡ false → mark.cut ≡ false
       → mark.opaque ≡ false → AreClashes m fs os ks
@@ -101,7 +100,7 @@ module _ {T : Type 0} (m : T → Mark) where
         | inr l ↦ inr (record { itself = rw eo l.itself; below = λ i p. rw eo (l.below i p) })
       ]
 
-  -- no mark is needed where none stands below
+  -- no mark is needed if there is none below
   pub unmarked_folder : (f o : Subtree T) (fs os : List (Subtree T)) (ks : List (Subtree Mark)) → ks ≡ []
       → f.below ≡ spread fs → o.below ≡ spread os → (m f.value).cut ≡ false → AreClashes m fs os ks
       → Clash (marked m (whole f)) (marked m (whole o)) (λ q. None)
@@ -172,7 +171,7 @@ module _ {T : Type 0} (m : T → Mark) (os : List (Subtree T)) where
         (λ q. sym (at_spread ks (rise c r) n q)) (found c r n);
   }
 
--- files are gone through up to left, with the others up to rest
+-- files are traversed up to left, with the others up to rest
 pub record IsClashing {T : Type 0} (m : T → Mark) (files left others rest : List (Subtree T)) (marks : List (Subtree Mark)) : Type 0 where
   pub clashing : (more : List (Subtree Mark)) → Clashing m others left more → Clashing m others files (marks ++ more)
   pub names : NamesRise left
@@ -198,22 +197,22 @@ module _ {T : Type 0} (m : T → Mark) (files later others rest rest' : List (Su
     smaller = omega (arith, grown f later, inv.smaller);
   }
 
-  -- where no other branch has the file's name, no mark is added
+  -- if no other branch has the file's name, no mark is added
   pub nothing_there : named f.name rest' ≡ None → IsClashing m files later others rest' marks
   nothing_there n = on marks (λ more c. inv.clashing more (apart f later more (rw (sym at_other ∙ n) (no_others (marked m (whole f)))) c))
 
-  -- where the branch of that name does not clash, no mark is added
+  -- if the branch of that name does not clash, no mark is added
   pub no_clash : (o : Subtree T) → named f.name rest' ≡ Some o → Clash (marked m (whole f)) (marked m (whole o)) (λ q. None)
       → IsClashing m files later others rest' marks
   no_clash o n w = on marks (λ more c. inv.clashing more (apart f later more (rw (sym at_other ∙ n) w) c))
 
-  -- where the two clash, their mark is added
+  -- if the two clash, their mark is added
   pub one_clash : (o : Subtree T) (k : Subtree Mark) → named f.name rest' ≡ Some o → IsClashMark m f o k
       → IsClashing m files later others rest' (marks ++ k ∷ [])
   one_clash o k n w = on (marks ++ k ∷ []) (λ more c. rw append_assoc
       (inv.clashing (k ∷ more) (together f later k more w.name w.rising (rw (sym at_other ∙ n) w.at) c)))
 
-  -- there is less to go through below one of the files than in all of them
+  -- there is less to traverse below one of the files than in all of them
   pub deeper_measure : 2 * length f.below + 1 < 2 * length (spread files)
   deeper_measure = omega (arith, grown f later, inv.smaller)
 
@@ -232,8 +231,8 @@ pub upper_wins : (o : Option Entry) (x : Entry) → laid_at upper o (Some x) ≡
 upper_wins None x = refl
 upper_wins (Some y) x = refl
 
--- the upper tree's marks, and then those of the paths at which it has a file over something, leave
--- of the lower one what the upper one does not remove, as far as it does not cover it itself
+-- the upper tree's marks, and then those of the paths at which it has a file over something, leave of the lower one what the upper one does
+-- not remove, as far as it does not cover it itself
 module _ (el eh one two eo : Path → Option Entry) (mh hidden : Path → Option Mark)
     (first : (q : Path) → one q ≡ unless (cut_by mh q) (el q)) (second : (q : Path) → two q ≡ unless (cut_by hidden q) (one q))
     (over : (q : Path) → eo q ≡ laid_at upper (two q) (eh q)) (c : Clash (λ q. option_map mark_of (eh q)) (λ q. option_map mark_of (el q))
@@ -343,7 +342,7 @@ module _ (el eh eo : Path → Option Entry) (ml mh replaced mo : Path → Option
       from path q r i x None false e f = or_left (removed_by ml el path) _ (or_right (cut_by ml path) _
           (file_covers el path q r i (subst IsFile (lower_stays q false e f) x)))
 
-  -- a path is removed where one of the two trees removes it, and nowhere else
+  -- a path is removed exactly if one of the two trees removes it
   pub what_both_remove : (path : Path) → removed_by mo eo path ≡ (removed_by ml el path || removed_by mh eh path)
   what_both_remove path = both_ways (removed_by mo eo path) (removed_by ml el path || removed_by mh eh path) (of_either path)
       (λ e. elim (or_cases (removed_by ml el path) _ e) [ inl x ↦ of_low path x | inr x ↦ of_high path x ])

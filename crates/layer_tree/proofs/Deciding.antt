@@ -1,6 +1,6 @@
--- Of a sound layer it is decided which paths it has and which it cuts, and hard links from each
--- path end. What is decided of each member is decided of some (member_decided): has_decided and
--- cut_decided go down a path by this. has_end takes no more hops than there are places.
+-- For a sound layer it is decided which paths it has and which it cuts, and hard links from each path end. What is decided for each member
+-- is decided for some (member_decided): has_decided and cut_decided go down a path with this. has_end takes no more hops than there are
+-- places.
 use Rattle.std.proofs.Common.{◌≡◌, ◌≢◌, ◌∙◌, sym, ap, subst, ℕ, zero, suc, ◌<◌, ◌⊎◌, ◌↔◌, inl, inr, List, [], ◌∷◌, ◌++◌, Option, Some, None, Bool, true, false, refl, arith, Contains}
 use Rattle.std.proofs.lemmas.Bool.{cases_eq}
 use Rattle.std.proofs.lemmas.List.Elements.{All-contains, Contains-append_right}
@@ -31,7 +31,7 @@ use Rattle.layer_tree.proofs.Parents.{is_directory_or_not}
 abbrev pub IsDecided : Type 0 → Type 0
 IsDecided P = P ⊎ ¬ P
 
--- where two things are decided, it is decided whether both hold
+-- if two things are decided, it is decided whether both hold
 pub both_decided : {P Q : Type 0} → IsDecided P → IsDecided Q → IsDecided (P × Q)
 both_decided (inl p) (inl q) = inl (p, q)
 both_decided (inl p) (inr n) = inr (λ x. n x.1)
@@ -42,7 +42,7 @@ either_decided (inl p) q = inl (inl p)
 either_decided (inr n) (inl q) = inl (inr q)
 either_decided (inr n) (inr m) = inr (λ x. elim x [ inl p ↦ n p | inr q ↦ m q ])
 
--- where one thing is decided, so is its opposite
+-- if one thing is decided, so is its opposite
 pub not_decided : {P : Type 0} → IsDecided P → IsDecided (¬ P)
 not_decided (inl p) = inr (λ n. n p)
 not_decided (inr n) = inl n

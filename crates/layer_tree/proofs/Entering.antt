@@ -18,7 +18,7 @@ use Rattle.layer_tree.specs.Reading.{IsEntryIn}
 pub directory_stays : (a : List ℕ) (h : ℕ) → kind a h ≡ Directory → IsFinal a h h
 directory_stays a h d = stays (λ l. let k = l.1 in absurd (cc))
 
--- what is no directory does not lead to one
+-- what is not a directory does not lead to one
 pub no_directory : (a : List ℕ) → IsImage a → (h e : ℕ) → From a h → kind a h ≢ Directory → IsFinal a h e → kind a e ≢ Directory
 no_directory a i h e from n (stays m) = n
 no_directory a i h e from n (follows l f) = λ k. (

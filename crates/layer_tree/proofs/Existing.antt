@@ -1,6 +1,5 @@
--- Sound layers have a listing (some_listing): all their paths, sorted, those that are shown with
--- their places. shown_at puts in one path after another. Deciding tells which are shown, and
--- one_shown that each is so by one entry.
+-- Sound layers have a listing (some_listing): all their paths, sorted, those that are shown with their places. shown_at inserts one path
+-- after another. Deciding says which are shown, and one_shown that one entry shows each.
 use Rattle.std.proofs.Common.{◌≡◌, ◌∙◌, sym, ap, subst, ℕ, zero, suc, ◌⊎◌, ◌↔◌, inl, inr, List, [], ◌∷◌, ◌++◌, Some, refl, arith, Contains}
 use Rattle.std.specs.Prelude.{slice_get}
 use Rattle.std.specs.declared.cmp.Ordering.{Ordering}

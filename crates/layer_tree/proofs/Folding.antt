@@ -1,6 +1,5 @@
--- A directory with the branches of its members has those of all paths from it. The main lemma is
--- folder, of its entries (entries_of) and of what it removes (removes_of); single is the like of a
--- file. A mark that cuts nothing is left away (made_as_needed).
+-- A directory with the branches of its members has those of all paths from it. The main lemma is folder, about its entries (entries_of) and
+-- what it removes (removes_of); single is the same for a file. A mark that cuts nothing is left out (made_as_needed).
 use Rattle.std.proofs.Common.{◌≡◌, ◌≢◌, ◌∙◌, sym, ap, subst, ℕ, ◌↔◌, inl, inr, List, [], ◌∷◌, ◌++◌, refl, Some, None, Option, Bool, true, false, ◌||◌, not, IsTrue, IsSomeAnd, length, arith}
 use Rattle.std.specs.Prelude.{◌==◌, slice_get, is_some, option_map, MatchOption}
 use Rattle.std.proofs.lemmas.Bool.{or_cases, or_left, or_right}
@@ -31,11 +30,11 @@ use Rattle.layer_tree.proofs.Stepping.{all_cut}
 use Rattle.layer_tree.proofs.Layered.{opened_directory, final_directory}
 use Rattle.layer_tree.proofs.Building.{no_markers, forests, white_forest, FoundBuilt, nowhere, somewhere, find_built, FoundWhite, unmarked, marked, find_white}
 
--- no member stands in what is no directory
+-- what is not a directory has no members
 no_member : (a : List ℕ) (i : IsImage a) (h c : ℕ) → kind a h ≢ Directory → IsMember a h c → ⊥
 no_member a i h c n m = n (opened_directory a i m.opened)
 
--- an entry that is no directory needs no mark
+-- an entry that is not a directory needs no mark
 pub single : (a : List ℕ) (i : IsImage a) (layer h : ℕ) (n : List ℕ) (entry : Entry)
     → kind a h ≢ Directory → entry.kind ≢ Directory → IsEntryIn a layer h entry
     → IsBranchAlone a layer h n (record { name = n; value = entry; below = [] })
@@ -61,8 +60,8 @@ single a i layer h n entry other file w = record {
     only [] e f = (let s : entry ≡ e = cc in (tt, (h, refl, subst (IsEntryIn a layer h) s w)))
     only (m ∷ path) e f = absurd (cc)
 
--- what is made of the members of the directory h: branches of those that are no markers, with the
--- marks below these, marks of the markers, and both kinds of marks as one
+-- what is made from the members of the directory h: branches of those that are not markers, with the marks below these, marks of the
+-- markers, and both kinds of marks as one
 pub record IsMadeOfMembers (a : List ℕ) (layer h : ℕ) (ms : List NamedMember) (es : List (Subtree Entry))
     (below whites marks : List (Subtree Mark)) : Type 0 where
   pub sound : IsImage a
@@ -125,7 +124,7 @@ module _ (a : List ℕ) (layer h : ℕ) (ms : List NamedMember) (es : List (Subt
       only (m ∷ path) e f = only_below m path e (sym (at_spread es entries_forest.names m path) ∙ f)
           (find_built a layer h m found.built found.members.each found.members.rising)
 
-  -- a marker's mark stands for a marker among the members
+  -- a marker's mark represents a marker among the members
   white_is : (n : List ℕ) (path : Path) → FoundWhite n ms whites → (cut_through (named n whites) path ≡ true) ↔ HasNamed a h (marker ++ n)
   white_is n path (unmarked f q) = (
     λ e. (let y = rw f at e in absurd (cc)),
@@ -152,7 +151,7 @@ module _ (a : List ℕ) (layer h : ℕ) (ms : List NamedMember) (es : List (Subt
         rw (f, g) ((w path p.1).1 (subst (λ c. CutsAt a c path) here x.3))),
   )
 
-  -- what the marks of the whole directory say: it is opaque, or a name in it is cut
+  -- what the marks of the entire directory say: it is opaque, or a name in it is cut
   cut_name : (n : List ℕ) (path : Path) → cut_by (λ q. at_path (spread marks) (n ∷ q)) path
       ≡ (cut_through (named n below) path || cut_through (named n whites) path)
   cut_name n path =
@@ -246,7 +245,7 @@ module _ (a : List ℕ) (layer h : ℕ) (ms : List NamedMember) (es : List (Subt
       exact = removes_of n;
     }
 
-  -- a mark is named as the opaque marker goes on exactly where the directory has that
+  -- a mark has the name of an opaque marker after .wh. exactly if the directory has that marker
   pub opaque_is_held : (is_some (named rest_of_opaque whites) ≡ true) ↔ HasNamed a h opaque
   opaque_is_held = go (find_white rest_of_opaque found.whited)
     where
@@ -298,13 +297,13 @@ plain_folder a layer h ms es ks entry n plain =
     (record { name = n; value = record { cut = false; opaque = false }; below = [] }) both
     (record { uncut = refl; clear = refl; nothing = refl })
 
--- a mark that itself cuts nothing is blank exactly where it has no branches
+-- a mark that itself cuts nothing is blank exactly if it has no branches
 pub blank_below : (k : Subtree Mark) (ks : List (Subtree Mark)) (none : Bool) → k.value.cut ≡ false → k.value.opaque ≡ false
     → k.below ≡ spread ks → none ≡ (length ks == 0) → (IsTrue none → IsBlank k) × (IsBlank k → IsTrue none)
 blank_below k [] none u o b e = (λ t. record { uncut = u; clear = o; nothing = b }, λ blank. e)
 blank_below k (s ∷ ss) none u o b e = (λ t. absurd (grind (arith, t, e)), λ blank. (let f = sym b ∙ blank.nothing in absurd (cc)))
 
--- a mark where one is needed
+-- a mark if one is needed
 pub made_as_needed : (a : List ℕ) (layer h : ℕ) (n : List ℕ) (e : Subtree Entry) (k : Subtree Mark) (o : Option (Subtree Mark))
     → AreBranchesOf a layer h n e k → MatchOption o (IsBlank k) (λ s. (s ≡ k) × ¬ IsBlank k) → IsMadeOf a layer h n (e, o)
 made_as_needed a layer h n e k None w p = alone_without a layer h n e k w p

@@ -1,6 +1,5 @@
--- A tree laid on a tree is the tree of both runs. The main lemma is tree_of_both: what is said of a
--- tree laid on another (Lays) gives the entries and the cuts of both runs. lays_of says that of the
--- branches that are made, by the marks of clashes.
+-- One tree laid on another is the tree of both runs. The main lemma is tree_of_both: the relation of a tree laid on another (Lays) gives
+-- the entries and the cuts of both runs. lays_of shows it for the branches that are made, with the marks of clashes.
 use Rattle.std.proofs.Common.{◌≡◌, ◌∙◌, sym, ap, subst, ℕ, zero, suc, ◌+◌, ◌↔◌, inl, inr, List, [], ◌∷◌, ◌++◌, length, refl, arith, Option, Some, None, Bool, true, false, ◌||◌, ◌&&◌, IsTrue, IsSomeAnd}
 use Rattle.std.specs.Prelude.{slice_get, Result, Ok, Err, IfOk}
 use Rattle.std.proofs.lemmas.Bool.{or_cases, or_right}
@@ -70,7 +69,7 @@ some_and P (Some e) p = (e, refl, p)
 and_some : (P : Entry → Type 0) (o : Option Entry) (e : Entry) → o ≡ Some e → P e → IsSomeAnd o P
 and_some P o e f p = subst (λ x. IsSomeAnd x P) (sym f) p
 
--- a run leaves a plain path free where it neither shows nor cuts it
+-- a run leaves a plain path free if it neither shows nor cuts it
 free_if : (layers : List (List ℕ)) (path : Path) → IsPlain path → ((i h : ℕ) → ¬ Shows layers path i h) → ¬ IsCut layers path
     → IsFree layers path
 free_if [] path p s c = tt
@@ -214,7 +213,7 @@ lays_of le he one two oe lm hm hidden replaced am om h r k l e a m =
           (at_path (whole hm)) (at_path (whole replaced)) (at_path (whole om)) over (three_united lm hm replaced am om a m) r.at;
     }
 
--- no united mark cuts the root where neither does
+-- no united mark cuts the root if neither does
 pub root_uncut : (lm hm om : Subtree Mark) → IsLaid united lm hm om → lm.value.cut ≡ false → hm.value.cut ≡ false → om.value.cut ≡ false
 root_uncut lm hm om m e f =
     let s : Some om.value ≡ Some (united lm.value hm.value) = m.at [] in

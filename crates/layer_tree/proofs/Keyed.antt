@@ -1,6 +1,5 @@
--- Members in the order of their keys, and by name where these are equal, are in the order of their
--- names (by_name): behind a front that all names share keys do not fall where names rise. Keys that
--- are made behind such a front leave the members the same (told_apart).
+-- Members in the order of their keys, and by name if these are equal, are in the order of their names (by_name): after a front that all
+-- names share, keys do not fall as names rise. Keys that are made after such a front leave the members the same (told_apart).
 use Rattle.std.proofs.Common.{◌≡◌, ◌∙◌, sym, ap, subst, ℕ, ◌+◌, ◌<◌, ◌≤◌, ◌⊎◌, inl, inr, List, [], ◌∷◌, ◌++◌, append_assoc, length, length-append, map, take, drop, refl, arith, All, Bool, false}
 use Rattle.std.specs.Prelude.{slice_set, ◌==◌}
 use Rattle.std.specs.List.{slice_index_or}
@@ -21,7 +20,7 @@ use Rattle.layer_tree.specs.declared.members.KeyedMember.{KeyedMember}
 use Rattle.layer_tree.specs.Members.{member_in, members_in, HasFront, HaveFront, ShareFront, IsRead, IsKeyed, AreKeyedBehind, AreToldApart, keyed_past, key_and_name, IsByName}
 
 module _ (a : List ℕ) where
-  -- where names rise keys do not fall
+  -- if names rise keys do not fall
   less_by_both : (front : List ℕ) (x y : KeyedMember) → IsKeyed a front x → IsKeyed a front y
       → name_cmp (name_of a x.offset) (name_of a y.offset) ≡ Less
       → name_cmp (x.key ∷ name_of a x.offset) (y.key ∷ name_of a y.offset) ≡ Less
@@ -74,13 +73,13 @@ begins_less less front name p q = record {
   is = q.is ∙ ap (λ xs. xs ++ q.rest) p.is ∙ append_assoc less p.rest q.rest;
 }
 
--- either no member was before the name, or its front goes on from theirs
+-- either there was no member before the name, or the new front begins the old one
 pub first_or_more : (old new : List ℕ) (ms : List KeyedMember) (none : Bool) → none ≡ (length ms == 0) → (none ≡ false → HasFront new old)
     → (ms ≡ []) ⊎ HasFront new old
 first_or_more old new [] none e f = inl refl
 first_or_more old new (m ∷ ms) none e f = inr (f (e ∙ (grind arith)))
 
--- a name more begins with what all names begin with that is begun with the front before
+-- a front of the earlier common front and of one more name is common to all
 pub one_front : (a old new : List ℕ) (ms : List KeyedMember) (x : KeyedMember) → HaveFront a old ms → (ms ≡ []) ⊎ HasFront new old
     → HasFront new (name_of a x.offset) → HaveFront a new (ms ++ x ∷ [])
 one_front a old new ms x p (inl e) q = rw e
@@ -94,7 +93,7 @@ as_long a n ms s k d l =
     let f = s.each k d l in
     omega (arith, s.is, ap length f.is, length-append s.front f.rest)
 
--- the key behind what a name begins with
+-- the key after a front with which a name begins
 keyed_behind : (a front : List ℕ) (m : KeyedMember) → IsKeyed a [] m → HasFront front (name_of a m.offset)
     → IsKeyed a front (keyed_past a (length front) m)
 keyed_behind a front m p b =
@@ -108,7 +107,7 @@ keyed_behind a front m p b =
       bytes = subst AreBytes rest (all_bytes (drop (length front) name) (bytes-drop (length front) name (each_byte name bytes)));
     }
 
--- one key more, as the code goes
+-- one more key, as in the code
 pub one_keyed : (a : List ℕ) (n : ℕ) (old now : List KeyedMember) (i k : ℕ) (d : KeyedMember) → i < length old → i < length now
     → now ≡ map (keyed_past a n) (take i old) ++ drop i old → k ≡ key 8 (drop n (name_of a (slice_index_or now i d).offset))
     → slice_set now i (record { key = k; offset = (slice_index_or now i d).offset; name_len = (slice_index_or now i d).name_len })
@@ -118,7 +117,7 @@ one_keyed a n old now i k d l m e v =
     let with_key : ℕ → KeyedMember = λ key. record { key = key; offset = x.offset; name_len = x.name_len } in
     ap (λ key. slice_set now i (with_key key)) v ∙ map_over_more (keyed_past a n) old now i x l e (get_or_default now i d x m)
 
--- a member whose key is not made anew yet is as it was
+-- a member whose key is not made anew yet is unchanged
 pub not_yet : (a : List ℕ) (n : ℕ) (old now : List KeyedMember) (i : ℕ) (d : KeyedMember) → i < length old
     → now ≡ map (keyed_past a n) (take i old) ++ drop i old → slice_index_or now i d ≡ slice_index_or old i d
 not_yet a n old now i d l e =
@@ -140,11 +139,11 @@ same_members : (a : List ℕ) (n : ℕ) (ms : List KeyedMember) → members_in a
 same_members a n [] = refl
 same_members a n (m ∷ ms) = ap (λ xs. member_in a m ∷ xs) (same_members a n ms)
 
--- keys of whole names tell what they tell
+-- keys of full names are keys after the empty front
 pub whole_keys : (a : List ℕ) (ms : List KeyedMember) → All (IsRead a) ms → All (IsKeyed a []) ms → AreToldApart a ms ms
 whole_keys a ms r p = record { read = r; keyed = record { front = []; each = p }; same = refl }
 
--- keys behind a front that all names share are keys of the same members
+-- keys after a front that all names share are keys of the same members
 pub told_apart : (a : List ℕ) (n : ℕ) (ms : List KeyedMember) → All (IsRead a) ms → All (IsKeyed a []) ms → ShareFront a n ms
     → AreToldApart a ms (map (keyed_past a n) ms)
 told_apart a n ms r p s = rw s.is (record {

@@ -1,6 +1,6 @@
--- What one layer cuts and shows, by its directories. The main lemma is tree_of_layer: the root's
--- branch and mark are the layer's tree. cuts_is says what a layer cuts by going down from the root,
--- name by name, as branches are made; removed_cut and cut_removed are its two ways.
+-- What one layer cuts and shows, by its directories. The main lemma is tree_of_layer: the root's branch and mark are the layer's tree.
+-- cuts_is says what a layer cuts by descending from the root, name by name, as branches are made; removed_cut and cut_removed are its two
+-- directions.
 use Rattle.std.proofs.Common.{◌≡◌, ◌≢◌, ◌∙◌, sym, ap, subst, ℕ, ◌⊎◌, ◌↔◌, inl, inr, List, [], ◌∷◌, ◌++◌, refl, arith, Option, Some, None, Bool, true, false, IsTrue, IsSomeAnd, ◌&&◌}
 use Rattle.std.proofs.lemmas.Bool.{and_parts, or_left}
 use Rattle.romfs_format.specs.declared.head.Kind.TheVariants.{Directory}
@@ -98,7 +98,7 @@ module _ (a : List ℕ) where
       }
 
 module _ (a : List ℕ) (i : IsImage a) where
-  -- a layer cuts a path exactly where that is plain and cut on the way down from the root
+  -- a layer cuts a path exactly if that is plain and cut on the way down from the root
   pub cuts_is : (path : Path) → Cuts a path ↔ (IsPlain path × CutsFrom a (root a) path)
   cuts_is path = (
     λ c. (c.0, subst (CutsFrom a (root a)) (sym c.1.3) (removed_cut a (root a) c.1.0 c.1.1 c.1.2 c.1.4.1)),

@@ -1,6 +1,5 @@
--- Two trees that are gone through in step, of which neither has a file where the other has more
--- than a file. IsMeeting is the loop over the branches of two directories, Meeting what it finds of
--- each name, both ways at once, and are_apart what that says of the directories.
+-- Two trees that are traversed in step, neither of which has a file where the other has more than a file. IsMeeting is the loop over the
+-- branches of two directories, Meeting what it finds for each name, both ways at once, and are_apart what that says about the directories.
 use Rattle.std.proofs.Common.{◌≡◌, ◌∙◌, sym, ap, subst, ℕ, ◌+◌, ◌*◌, ◌<◌, ◌≤◌, inl, inr, List, [], ◌∷◌, length, refl, arith, Option, Some, None}
 use Rattle.std.specs.Prelude.{option_map}
 use Rattle.std.specs.List.{AllByRecursion}
@@ -53,7 +52,7 @@ module _ {T : Type 0} (m : T → Mark) (os : List (Subtree T)) where
     high_files = one_way os fs s r (λ n. (found c r n).1);
   }
 
--- files are gone through up to left, with the others up to rest
+-- files are traversed up to left, with the others up to rest
 pub record IsMeeting {T : Type 0} (m : T → Mark) (files left others rest : List (Subtree T)) : Type 0 where
   pub meeting : Meeting m others left → Meeting m others files
   pub names : NamesRise left
@@ -84,7 +83,7 @@ module _ {T : Type 0} (m : T → Mark) (files later others rest rest' : List (Su
   pub apart : (o : Subtree T) → named f.name rest' ≡ Some o → IsApart m f o → IsMeeting m files later others rest'
   apart o n w = on (rw n (w.low_file, w.high_file))
 
-  -- there is less to go through below two branches of one name than in all of them
+  -- there is less to traverse below two branches with one name than in all of them
   pub deeper_measure : (o : Subtree T) → named f.name rest' ≡ Some o
       → 3 * (length f.below + length o.below) + 2 < 3 * (length (spread files) + length (spread others))
   deeper_measure o n = omega (arith, grown f later, inv.smaller, named_measure f.name others o (sym at_other ∙ n))

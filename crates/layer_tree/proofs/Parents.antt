@@ -1,5 +1,5 @@
--- What stands above a shown path is shown, as a directory. The main lemma is in_directory: a run
--- that shows a path shows something above it (gap), and that is no file (clash).
+-- Each prefix of a shown path is shown, as a directory. The main lemma is in_directory: a run that shows a path shows something above it
+-- (gap), and that is not a file (clash).
 use Rattle.std.proofs.Common.{◌≡◌, ◌≢◌, ◌∙◌, sym, ap, subst, ℕ, zero, suc, ◌⊎◌, inl, inr, List, [], ◌∷◌, ◌++◌, refl, append_assoc, Option, Some, None, IsSomeAnd}
 use Rattle.std.specs.Prelude.{slice_get}
 use Rattle.std.specs.List.{AllByRecursion}
@@ -29,7 +29,7 @@ last_name : (q : Path) → (q ≡ []) ⊎ ((p : Path) × (y : List ℕ) × (q �
 last_name [] = inl refl
 last_name (m ∷ q) = elim (last_name q) [ inl e ↦ inr ([], m, ap (λ r. m ∷ r) e) | inr (p, y, e) ↦ inr (m ∷ p, y, ap (λ r. m ∷ r) e) ]
 
--- a path that is no directory cuts what would stand below it
+-- a path that is not a directory cuts what would be below it
 other_cuts : (a : List ℕ) → IsImage a → (q : Path) (n : List ℕ) (g : ℕ) → IsPlain (q ++ n ∷ []) → Has a q g → kind a g ≢ Directory
     → Cuts a (q ++ n ∷ [])
 other_cuts a i q n g p has other = elim (last_name q) [
@@ -47,7 +47,7 @@ other_cuts a i q n g p has other = elim (last_name q) [
       ))
 ]
 
--- what is cut is so with a name more
+-- what is cut is cut with one more name, too
 longer_cut : (a : List ℕ) (q : Path) (n : List ℕ) → IsPlain (q ++ n ∷ []) → Cuts a q → Cuts a (q ++ n ∷ [])
 longer_cut a q n p (pq, (r, y, rest, e, c)) = (p, (r, y, rest ++ n ∷ [], ap (λ s. s ++ n ∷ []) e ∙ append_assoc r (y ∷ rest) (n ∷ []), c))
 
@@ -55,7 +55,7 @@ plain_above : (q : Path) (n : List ℕ) → IsPlain (q ++ n ∷ []) → IsPlain 
 plain_above [] n p = tt
 plain_above (m ∷ q) n p = (p.0, plain_above q n p.1)
 
--- a run does not show a path below one that it shows as no directory
+-- a run does not show a path below one that it shows as something other than a directory
 clash : (layers : List (List ℕ)) → AreImages layers → (q : Path) (n : List ℕ) (i h j g : ℕ) (a : List ℕ)
     → IsPlain (q ++ n ∷ []) → IsTop layers (q ++ n ∷ []) i h → IsTop layers q j g
     → slice_get layers j ≡ Some a → kind a g ≢ Directory → ⊥

@@ -1,5 +1,5 @@
--- What few marks leave of branches, looked for one by one, from the last. at_place, cut_at and
--- in_gap say what is left by one of them; Picking is the loop.
+-- What few marks leave of branches, searched for one by one, from the last. at_place, cut_at and in_gap say what one of them leaves;
+-- Picking is the loop.
 use Rattle.std.proofs.Common.{◌≡◌, ◌≢◌, ◌∙◌, sym, ap, subst, ℕ, zero, suc, ◌+◌, ◌<◌, ◌≤◌, inl, inr, List, [], ◌∷◌, ◌++◌, length, take, drop, get_or, refl, arith, append_assoc, Option, Some, None}
 use Rattle.std.specs.Prelude.{slice_set, Result, Ok, Err, OnOk}
 use Rattle.std.proofs.lemmas.List.{append-nil}
@@ -50,7 +50,7 @@ module _ {T : Type 0} (m : Subtree Mark) where
     ),
   )
 
-  -- of branches behind the one with the mark's name none is touched
+  -- of branches after the one with the mark's name none is touched
   behind : (s : Subtree T) (ss : List (Subtree T)) → NamesRise (s ∷ ss) → s.name ≡ m.name → Keeps (m ∷ []) ss ss
   behind s ss r e = untouched ss (above ss (subst (λ n. AllByRecursion (λ t. name_cmp n t.name ≡ Less) ss) e r.0))
 
@@ -95,7 +95,7 @@ module _ {T : Type 0} (m : Subtree Mark) where
   at_place_if (Ok x) ss l b i f p e k = at_place ss b l i f p (subst (λ y. IsKept y m b) e k)
   at_place_if (Err x) ss l b i f p e k = tt
 
-  -- what a mark leaves where others, which come after it, left the rest
+  -- what a mark leaves if others, which come after it, left the rest
   pub kept_more : (ls mid out : List (Subtree T)) (later : List (Subtree Mark)) → NamesRise (m ∷ later) → AreKept ls later mid
       → AreKept mid (m ∷ []) out → AreKept ls (m ∷ later) out
   kept_more ls mid out later r a b = record { forest = b.forest; at = at }
@@ -120,7 +120,7 @@ module _ {T : Type 0} (m : Subtree Mark) where
           ∙ by_one n p low (same_or_not m.name n)
           ∙ ap (λ c. unless c low) (sym (by_name (m ∷ later) r n p))
 
--- the marks behind those that are left have left this of the branches
+-- the marks after those that are left have left this of the branches
 pub record Picking {T : Type 0} (lows ls : List (Subtree T)) (marks left : List (Subtree Mark)) : Type 0 where
   pub later : List (Subtree Mark)
   pub is : marks ≡ left ++ later
@@ -156,7 +156,7 @@ module _ {T : Type 0} where
     split : marks ≡ before ++ (m ∷ w.later)
     split = w.is ∙ ap (λ xs. xs ++ w.later) e ∙ append_assoc before (m ∷ []) w.later
 
-    -- each turn goes over one more
+    -- each turn passes one more
     pub one_more : (out : List (Subtree T)) → NamesRise marks → AreKept ls (m ∷ []) out → Picking lows out marks before
     one_more out r k = record {
       later = m ∷ w.later;

@@ -1,5 +1,4 @@
--- Plain paths, by test. plain_is lets the test that trees make stand for what is said of stacks:
--- that no name of the path is a marker's.
+-- Plain paths, by test. plain_is lets the test of trees replace what stacks require: that no name of the path is a marker's.
 use Rattle.std.proofs.Common.{◌≡◌, ◌∙◌, sym, ◌↔◌, [], ◌∷◌, refl, Bool, true, false, not, ◌&&◌}
 use Rattle.std.specs.Prelude.{nat_eq}
 use Rattle.std.specs.List.{starts_with}

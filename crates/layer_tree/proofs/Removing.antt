@@ -1,6 +1,5 @@
--- What marks and files remove: a path is removed where it, or a path above it, is. removed_extends
--- says so of both, cut_extends of marks; covering_file and file_covers find the file above a
--- covered path.
+-- What marks and files remove: a path is removed if it, or a path above it, is. removed_extends says so for both, cut_extends for marks;
+-- covering_file and file_covers find the file above a covered path.
 use Rattle.std.proofs.Common.{◌≡◌, sym, ap, subst, inl, inr, [], ◌∷◌, ◌++◌, refl, Option, Some, None, Bool, true, false, not}
 use Rattle.std.specs.Prelude.{option_map}
 use Rattle.std.proofs.lemmas.Bool.{or_cases, or_left, or_right}
@@ -20,7 +19,7 @@ below_itself : (o : Option Mark) → cuts_itself o ≡ true → cuts_below o ≡
 below_itself None e = absurd (cc)
 below_itself (Some m) e = or_left m.cut m.opaque e
 
--- what is cut is so with more names
+-- what is cut is cut with more names, too
 pub cut_extends : (m : Path → Option Mark) (q r : Path) → cut_by m q ≡ true → cut_by m (q ++ r) ≡ true
 cut_extends m [] [] e = e
 cut_extends m [] (n ∷ r) e = or_left (cuts_below (m [])) (cut_by (λ p. m (n ∷ p)) r) (below_itself (m []) e)
@@ -56,7 +55,7 @@ pub file_covers : (f : Path → Option Entry) (path q r : Path) → path ≡ q +
 file_covers f path q r e x = subst (λ p. covered_by f p ≡ true) (sym e)
     (cut_extends (λ p. option_map mark_of (f p)) q r (cut_at_itself (λ p. option_map mark_of (f p)) q x))
 
--- what is removed is so with more names
+-- what is removed is removed with more names, too
 pub removed_extends : (m : Path → Option Mark) (f : Path → Option Entry) (path q r : Path) → path ≡ q ++ r
     → removed_by m f q ≡ true → removed_by m f path ≡ true
 removed_extends m f path q r e x = subst (λ p. removed_by m f p ≡ true) (sym e) (elim (or_cases (cut_by m q) (covered_by f q) x) [

@@ -1,6 +1,6 @@
--- Branches and marks in step, in the order of names. IsPassed is the loop that seeks a name,
--- Keeping the loop over branches and their marks, Keeps what it makes of each, and are_kept what
--- that is for all. all_cut, alone and inside say what a mark leaves of one branch.
+-- Branches and marks in step, in the order of names. IsPassed is the loop that searches for a name, Keeping the loop over branches and
+-- their marks, Keeps what it makes of each, and are_kept what that is for all. all_cut, alone and inside say what a mark leaves of one
+-- branch.
 use Rattle.std.proofs.Common.{◌≡◌, ◌≢◌, ◌∙◌, sym, ap, subst, ℕ, ◌+◌, ◌<◌, ◌≤◌, inl, inr, List, [], ◌∷◌, ◌++◌, length, refl, arith, append_assoc, Option, Some, None, Bool, true, false}
 use Rattle.std.specs.Prelude.{option_to_list}
 use Rattle.std.proofs.lemmas.List.{append-nil}
@@ -49,7 +49,7 @@ module _ {T : Type 0} (name : List ℕ) (branches rest later : List (Subtree T))
   pub first_named : name_cmp s.name name ≡ Equal → named name rest ≡ Some s
   first_named q = elim (same_or_not s.name name) [ inl x ↦ rw (e, x.1) | inr x ↦ absurd (x.0 (exact_bytes s.name name q)) ]
 
-  -- where the first branch comes after, no branch has the name
+  -- if the first branch comes after, no branch has the name
   pub none_named : name_cmp s.name name ≡ Greater → named name rest ≡ None
   none_named g =
       let l = above_of s.name name g in
@@ -131,7 +131,7 @@ no_marks ls f = record { forest = f; at = λ n p. rw (nothing_cut p) refl }
 not_less : (a b : List ℕ) → name_cmp a b ≡ Less → name_cmp b a ≢ Less
 not_less a b f g = not_below_itself a (nat_list_cmp_total.trans a b a f g)
 
--- what was the same for later names is so when branches before one name are passed over
+-- what was the same for later names stays the same when branches before one name are passed over
 pub still_same : {T U : Type 0} (name : List ℕ) (rest rest' all : List (Subtree U)) → IsFrom name rest rest' → (ls : List (Subtree T))
     → AllByRecursion (λ t. name_cmp name t.name ≡ Less) ls
     → AllByRecursion (λ k. named k.name rest ≡ named k.name all) ls
@@ -142,7 +142,7 @@ still_same name rest rest' all from (k ∷ ks) a s = (
   still_same name rest rest' all from ks a.1 s.1,
 )
 
--- lows are gone through up to ls, with the marks up to rest
+-- lows are traversed up to ls, with the marks up to rest
 pub record Keeping {T : Type 0} (lows ls out : List (Subtree T)) (marks rest : List (Subtree Mark)) : Type 0 where
   pub kept : (more : List (Subtree T)) → Keeps marks ls more → Keeps marks lows (out ++ more)
   pub names : NamesRise ls
@@ -154,7 +154,7 @@ all_same : {T : Type 0} (ls : List (Subtree T)) (marks : List (Subtree Mark))
 all_same [] marks = tt
 all_same (l ∷ ls) marks = (refl, all_same ls marks)
 
--- before the first branch all branches and marks are to be gone through
+-- before the first branch all branches and marks are still to be traversed
 pub keeping_begun : {T : Type 0} (lows : List (Subtree T)) (marks : List (Subtree Mark)) → IsForest lows
     → NamesRise marks → Keeping lows lows [] marks marks
 keeping_begun lows marks f r = record {
@@ -199,7 +199,7 @@ module _ {T : Type 0} (lows ls out : List (Subtree T)) (marks rest rest' : List 
     pub untouched : named l.name rest' ≡ None → Keeping lows ls (out ++ l ∷ []) marks rest'
     untouched n = on (out ++ l ∷ []) (λ more k. rw append_assoc (inv.kept (l ∷ more) (Untouched l ls more (sym at_mark ∙ n) k)))
 
-    -- of a branch that its mark cuts whole, nothing is left
+    -- if its mark cuts all of a branch, nothing is left of it
     pub left_out : (m : Subtree Mark) → named l.name rest' ≡ Some m → IsLeftOut m → Keeping lows ls out marks rest'
     left_out m n c = on out (λ more k. inv.kept more (Left_out l ls more m (sym at_mark ∙ n) c k))
 
@@ -272,7 +272,7 @@ with_children low mark lows out e left =
     subst (λ below. IsKept (record { name = low.name; value = low.value; below = below }) mark
     (record { name = low.name; value = low.value; below = spread out })) (sym e) (left.kept low.name low.value)
 
--- where the children of the first branch were taken, and it is passed on with what a mark leaves of
+-- if the children of the first branch were taken, and it is passed on with what a mark leaves of
 -- them, what the mark leaves of it is kept
 pub kept_first : {T : Type 0} (mark : Subtree Mark) (lows between lows' kept kept' children left : List (Subtree T))
     → TakesChildren lows between children → AreChildrenLeft mark children left → PassesWith left between lows' kept kept'

@@ -1,6 +1,6 @@
--- A tree laid on a tree: the upper one leaves out entries of the lower one, its entries cover what
--- is left, and the marks are united, with marks for what the upper one's directories cover of the
--- lower one's files.
+-- One tree laid on another: the upper one leaves out entries of the lower one, its entries cover
+-- what remains, and the marks are united, with marks for what the upper one's directories cover of
+-- the lower one's files.
 use Rattle.std.specs.Prelude.{◌≡◌, ◌≢◌, ℕ, ◌⊎◌, List, [], ◌∷◌, ◌++◌, Bool, true, false, not, ◌||◌, Option, Some, None, MatchOption, option_to_list, if◌then◌else◌}
 use Rattle.layer_paths.specs.Rows.{Subtree, name_cmp, named, NamesRise, spread, whole, at_path, IsRising, IsForest, PathsRise}
 use Rattle.std.specs.declared.cmp.Ordering.TheVariants.{Less}
@@ -41,7 +41,8 @@ pub record IsKept {T : Type 0} (low : Subtree T) (mark : Subtree Mark) (out : Su
 abbrev pub IsLeft : {T : Type 0} → Subtree T → Subtree Mark → Option (Subtree T) → Type 0
 IsLeft low mark out = MatchOption out (IsLeftOut mark) (λ b. IsKept low mark b)
 
--- the first branch has gone from one list, and what a mark leaves of it to the end of another one
+-- the first branch is removed from one list, and what a mark leaves of it added to the end of
+-- another
 pub record KeepsFirst {T : Type 0} (mark : Subtree Mark) (lows lows' kept kept' : List (Subtree T))
     : Type 0 where
   pub low : Subtree T
@@ -67,7 +68,7 @@ pub record Lays (low high out : TreeRows) : Type 0 where
   pub removed : (path : Path) → removes out path ≡ (removes low path || removes high path)
 
 -- what two marks leave of the lower tree's entries, one after the other, is covered by the upper
--- one's
+-- tree's entries
 pub record CoverTheKept (low high : Subtree Entry) (marks hidden : Subtree Mark)
     (out : Subtree Entry) : Type 0 where
   pub unmarked : Subtree Entry
@@ -82,7 +83,7 @@ pub record AreUnited (low replaced high out : Subtree Mark) : Type 0 where
   pub above_is : IsLaid united replaced high above
   pub united_is : IsLaid united low above out
 
--- whether something is there that does not cut itself
+-- whether there is something that does not cut itself
 abbrev pub is_uncut : Option Mark → Bool
 is_uncut None = false
 is_uncut (Some m) = not m.cut
@@ -98,14 +99,14 @@ pub record IsLeafAt (others : Path → Option Mark) (path : Path) : Type 0 where
   pub below : (n : List ℕ) (q : Path) → others (path ++ n ∷ q) ≡ None
 
 -- marks of the paths at which the first of two trees cuts itself, and the other does not or has
--- something below: they cut only what the first cuts, and all of it where the other has more than
+-- something below: they cut only what the first cuts, and all of it if the other has more than
 -- leaves
 pub record Clash (files others marks : Path → Option Mark) : Type 0 where
   pub sound : (path : Path) → cut_by marks path ≡ true → cut_by files path ≡ true
   pub whole : (path : Path) → cuts_itself (files path) ≡ true
       → (cut_by marks path ≡ true) ⊎ IsLeafAt others path
 
--- the same of the branches of two directories
+-- the same for the branches of two directories
 pub record AreClashes {T : Type 0} (m : T → Mark) (files others : List (Subtree T))
     (marks : List (Subtree Mark)) : Type 0 where
   pub forest : IsForest marks
@@ -119,14 +120,14 @@ pub record IsClashMark {T : Type 0} (m : T → Mark) (file other : Subtree T)
   pub rising : IsRising mark
   pub at : Clash (marked m (whole file)) (marked m (whole other)) (at_path (whole mark))
 
--- the same of a mark that there may be
+-- the same for an optional mark
 abbrev pub HasClash : {T : Type 0} → (T → Mark) → Subtree T → Subtree T → Option (Subtree Mark)
     → Type 0
 HasClash m file other mark = MatchOption mark
     (Clash (marked m (whole file)) (marked m (whole other)) (λ q. None))
     (λ k. IsClashMark m file other k)
 
--- the same of two roots: no mark cuts the root itself
+-- the same for two roots: no mark cuts the root itself
 pub record AreRootClashes {T : Type 0} (m : T → Mark) (file other : Subtree T)
     (mark : Subtree Mark) : Type 0 where
   pub uncut : mark.value.cut ≡ false
@@ -141,12 +142,12 @@ pub record AreEntriesLaid (low high : Subtree Entry) (marks : Subtree Mark) (out
   pub replaced_is : AreRootClashes mark_of low high replaced
   pub covers : CoverTheKept low high marks hidden out
 
--- the branches of two directories clash nowhere, whichever of them are the files
+-- the branches of two directories do not clash, whichever of them are the files
 pub record AreApart {T : Type 0} (m : T → Mark) (lows highs : List (Subtree T)) : Type 0 where
   pub low_files : AreClashes m lows highs []
   pub high_files : AreClashes m highs lows []
 
--- the same of two branches
+-- the same for two branches
 pub record IsApart {T : Type 0} (m : T → Mark) (low high : Subtree T) : Type 0 where
   pub low_file : Clash (marked m (whole low)) (marked m (whole high)) (λ q. None)
   pub high_file : Clash (marked m (whole high)) (marked m (whole low)) (λ q. None)

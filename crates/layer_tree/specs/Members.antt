@@ -1,4 +1,4 @@
--- The members of a directory, and how they are brought in order.
+-- The members of a directory, and how they are sorted.
 use Rattle.std.specs.Prelude.{◌≡◌, ℕ, List, ◌∷◌, ◌++◌, length, map, drop, All}
 use Rattle.std.specs.List.Sorted.{IsSorted}
 use Rattle.romfs_format.specs.declared.head.Head.{Head}
@@ -35,25 +35,25 @@ pub record HasFront (front name : List ℕ) : Type 0 where
 abbrev pub HaveFront : List ℕ → List ℕ → List KeyedMember → Type 0
 HaveFront a front ms = All (λ m. HasFront front (name_of a m.offset)) ms
 
--- the names of these members all begin with so many bytes that are alike
+-- the names of these members all begin with this many equal bytes
 pub record ShareFront (a : List ℕ) (shared : ℕ) (ms : List KeyedMember) : Type 0 where
   pub front : List ℕ
   pub is : shared ≡ length front
   pub each : HaveFront a front ms
 
--- the name begins with the front, and the key is made of the eight bytes behind it
+-- the name begins with the front, and the key is made from the eight bytes after it
 pub record IsKeyed (a front : List ℕ) (m : KeyedMember) : Type 0 where
   pub rest : List ℕ
   pub name : name_of a m.offset ≡ front ++ rest
   pub key : m.key ≡ key 8 rest
   pub bytes : AreBytes rest
 
--- all names begin with one front, and the keys are made of the bytes behind it
+-- all names begin with one front, and the keys are made from the bytes after it
 pub record AreKeyedBehind (a : List ℕ) (ms : List KeyedMember) : Type 0 where
   pub front : List ℕ
   pub each : All (IsKeyed a front) ms
 
--- the member, its key made of the eight bytes behind the first n of its name
+-- the member, its key made from the eight bytes after the first n of its name
 abbrev pub keyed_past : List ℕ → ℕ → KeyedMember → KeyedMember
 keyed_past a n m = record {
   key = key 8 (drop n (name_of a m.offset));
@@ -69,8 +69,8 @@ key_and_name a m = m.key ∷ name_of a m.offset
 abbrev pub IsByName : List NamedMember → Type 0
 IsByName = IsSorted (λ x y. name_cmp x.name y.name)
 
--- the members are the same, and their keys are made of the bytes behind what all their names begin
--- with
+-- the members are the same, and their keys are made from the bytes after the common front of all
+-- their names
 pub record AreToldApart (a : List ℕ) (old new : List KeyedMember) : Type 0 where
   pub read : All (IsRead a) new
   pub keyed : AreKeyedBehind a new

@@ -5,7 +5,7 @@ use Rattle.layer_paths.specs.Rows.{Subtree}
 use Rattle.layer_paths.specs.declared.entries.Entry.{Entry}
 
 -- all along the path the layer has no marker for the next name, no opaque marker, and no entry that
--- is no directory
+-- is not a directory
 pub record IsUnremoved (a : List ℕ) (path : Path) : Type 0 where
   pub nowhere : (q : Path) (y : List ℕ) (rest : Path) → path ≡ q ++ y ∷ rest
       → (¬ IsIn a (q ++ (codes ".wh." ++ y) ∷ [])) × (¬ IsIn a (q ++ codes ".wh..wh..opq" ∷ []))

@@ -1,4 +1,4 @@
--- One layer read as a tree: what is at and below a header, and what is cut there.
+-- One layer, read as a tree: what is at and below a header, and what is cut there.
 use Rattle.std.specs.Prelude.{◌≡◌, ◌≢◌, ℕ, ◌+◌, ◌⊎◌, ◌↔◌, List, [], ◌∷◌, ◌++◌, length, All, true, false, Option, Some, None, MatchOption, option_to_list, IsSomeAnd, IsTrue, slice_get, codes}
 use Rattle.std.specs.List.{AllByRecursion}
 use Rattle.std.specs.declared.cmp.Ordering.TheVariants.{Less}
@@ -24,7 +24,7 @@ use Rattle.layer_paths.specs.Trees.{IsReadIn}
 abbrev pub IsBefore : NamedMember → NamedMember → Type 0
 IsBefore m n = name_cmp m.name n.name ≡ Less
 
--- members in the order of their names, no two of one name
+-- members in the order of their names, no two with one name
 abbrev pub NamedRise : List NamedMember → Type 0
 NamedRise [] = Unit {0}
 NamedRise (m ∷ ms) = AllByRecursion (IsBefore m) ms × NamedRise ms
@@ -48,18 +48,18 @@ pub record AreSorted (a : List ℕ) (d : ℕ) (ms : List KeyedMember) : Type 0 w
   pub by_name : AreByName a d (members_in a ms)
   pub read : All (IsRead a) ms
 
--- a header can be read in a layer: the image is sound, the ends kept so far are its own, and it
+-- a header can be read in a layer: the image is sound, the ends kept so far belong to it, and it
 -- gives this header
 pub record IsReadable (a kept : List ℕ) (head : Head) : Type 0 where
   pub sound : IsImage a
   pub ends : kept ≡ a
   pub given : IsGiven a head
 
--- a path leads to h that has as many names less than a path may have as are left
+-- a path leads to h, and it could have this many more names
 abbrev pub IsAtDepth : List ℕ → ℕ → ℕ → Type 0
 IsAtDepth a h left = (path : Path) × Has a path h × (length path + left ≡ MAX_NAMES)
 
--- what the name of an opaque marker says after .wh.
+-- the part of an opaque marker's name after .wh.
 abbrev pub rest_of_opaque : List ℕ
 rest_of_opaque = codes ".wh..opq"
 
@@ -68,7 +68,7 @@ abbrev pub HasNamed : List ℕ → ℕ → List ℕ → Type 0
 HasNamed a d n = (c : ℕ) × IsMember a d c × (name a c ≡ Some n)
 
 -- the layer cuts a path from the directory d: by a marker for its first name, by an opaque marker,
--- by an entry that is no directory, or deeper
+-- by an entry that is not a directory, or deeper
 abbrev pub CutsFrom : List ℕ → ℕ → Path → Type 0
 CutsFrom a d [] = ⊥
 CutsFrom a d (n ∷ path) =
@@ -114,7 +114,7 @@ pub record AreBranchesOf (a : List ℕ) (layer h : ℕ) (n : List ℕ) (e : Subt
   pub rising : IsRising k
   pub exact : RemovesFrom a h (at_path (whole k)) e
 
--- both are made of the header h under the name n
+-- both are made from the header h under the name n
 abbrev pub AreMadeOf : List ℕ → ℕ → ℕ → List ℕ → (Subtree Entry × Subtree Mark) → Type 0
 AreMadeOf a layer h n made = AreBranchesOf a layer h n made.0 made.1
 
@@ -123,7 +123,7 @@ abbrev pub IsMadeOf : List ℕ → ℕ → ℕ → List ℕ → (Subtree Entry �
 IsMadeOf a layer h n made =
     MatchOption made.1 (IsBranchAlone a layer h n made.0) (λ k. AreBranchesOf a layer h n made.0 k)
 
--- what is made of the header h under the name n has come to the end of branches of entries and of
+-- what is made from the header h under the name n is added to the end of branches of entries and of
 -- marks
 pub record AddsMade {A : Type 0} (a : List ℕ) (layer h : ℕ) (n : List ℕ)
     (old new : Branches A) : Type 0 where
@@ -138,7 +138,7 @@ pub record IsBlank (k : Subtree Mark) : Type 0 where
   pub clear : k.value.opaque ≡ false
   pub nothing : k.below ≡ []
 
--- members that are no markers have become branches of entries, and of marks if they need one
+-- members that are not markers have become branches of entries, and of marks if they need one
 pub data AreBuilt (a : List ℕ) (layer : ℕ) : List NamedMember → List (Subtree Entry)
     → List (Subtree Mark) → Type 0 where
   none_built : AreBuilt a layer [] [] []
@@ -156,7 +156,7 @@ pub data AreBuilt (a : List ℕ) (layer : ℕ) : List NamedMember → List (Subt
       → AreBuilt a layer ms es ks
       → AreBuilt a layer (m ∷ ms) (e ∷ es) (k ∷ ks)
 
--- markers have become cut marks of what their names say after .wh.
+-- markers have become cut marks of the parts of their names after .wh.
 pub data AreWhiteouts : List NamedMember → List (Subtree Mark) → Type 0 where
   none_white : AreWhiteouts [] []
   other : (m : NamedMember) (ms : List NamedMember) (ks : List (Subtree Mark))
@@ -165,7 +165,7 @@ pub data AreWhiteouts : List NamedMember → List (Subtree Mark) → Type 0 wher
       → m.name ≡ marker ++ k.name → k.value.cut ≡ true → k.below ≡ [] → AreWhiteouts ms ks
       → AreWhiteouts (m ∷ ms) (k ∷ ks)
 
--- members of a directory, and how many names are left below a path to it
+-- members of a directory, and how many names may still follow below a path to it
 abbrev pub AreMembersAt : List ℕ → ℕ → List NamedMember → Type 0
 AreMembersAt a left ms = (d : ℕ) × AllByRecursion (IsNamedMember a d) ms × IsAtDepth a d left
 

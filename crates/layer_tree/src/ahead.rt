@@ -1,9 +1,9 @@
 //! Headers and names that will be read, read ahead.
 //!
-//! Members in the order of their names are anywhere in the image, which is larger than the
+//! Members in the order of their names are scattered over the image, which is larger than the
 //! processor's caches. One after another, each would wait for its read. Here some dozens are read
 //! together, before their branches are made, and none of these reads waits for another. No branch
-//! follows from what is read here.
+//! depends on what is read here.
 
 use crate::members::KeyedMember;
 use romfs_reader::ImageView;
@@ -11,11 +11,11 @@ use romfs_reader::ImageView;
 /// How many names are read together.
 const TOGETHER: usize = 64;
 
-/// How far a directory's members have been gone over.
+/// How many of a directory's members have been passed.
 #[derive(Drop)]
 pub(crate) struct NamesAhead {
     passed: usize,
-    // A sum of all that was read, so no compiler drops the reading.
+    // A sum of everything read, so no compiler drops the reads.
     sum: u64,
 }
 
@@ -25,8 +25,8 @@ impl NamesAhead {
         NamesAhead { passed: 0, sum: 0 }
     }
 
-    /// Goes over one member more of these; now and then the names of the next ones are read. Those
-    /// of a small directory were all read just before.
+    /// Passes one more of these members; from time to time the names of the next ones are read.
+    /// Those of a small directory have just been read.
     pub(crate) fn pass(&mut self, image: &ImageView<'_>, members: &[KeyedMember]) {
         if members.len() > TOGETHER && self.passed % TOGETHER == 0 {
             self.read(image, members);

@@ -1,7 +1,7 @@
-//! Two trees of which neither has a file where the other has a directory or something below.
+//! Two trees, neither of which has a file where the other has a directory or something below.
 //!
-//! Most trees that are laid on one another are so. They are gone through in step once for both, and
-//! nothing is made.
+//! Most trees that are laid on one another are such. Both are traversed once, in step, and nothing
+//! is made.
 
 ghost use Rattle.std.specs.Prelude.{◌≡◌, IsTrue};
 ghost use Rattle.layer_paths.specs.Rows.{IsForest};
@@ -29,7 +29,7 @@ pub(crate) fn are_apart<T: Cuts, A: Allocator>(
     }
 }
 
-/// The same, by going over the first, which are fewer.
+/// The same, by traversing the first, which are fewer.
 #[cycle(meeting)]
 fn few_are_apart<T: Cuts, A: Allocator>(few: &[Branch<T, A>], many: &[Branch<T, A>]) -> bool
     requires few { IsForest few.now }
@@ -51,7 +51,7 @@ fn few_are_apart<T: Cuts, A: Allocator>(few: &[Branch<T, A>], many: &[Branch<T, 
     true
 }
 
-/// The same of two branches.
+/// The same for two branches.
 #[cycle(meeting)]
 fn is_apart<T: Cuts, A: Allocator>(low: &Branch<T, A>, high: &Branch<T, A>) -> bool
     ensures { IsTrue result → IsApart T.removed low.now high.now }

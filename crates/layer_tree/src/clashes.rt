@@ -1,8 +1,8 @@
 //! Where one tree has a file, and another one a directory or something below.
 //!
-//! Both trees are gone through in step, in the order of names, and only as far down as both have
-//! directories. Most trees that are laid on one another have no such path (`apart`), and then there
-//! is no mark but that of the root.
+//! Both trees are traversed in step, in the order of names, and only as far down as both have
+//! directories. Most trees that are laid on one another have no such path (`apart`); then the only
+//! mark is that of the root.
 
 ghost use Rattle.std.specs.Prelude.{◌≡◌, [], true, false, IfOk, IsTrue};
 ghost use Rattle.layer_paths.specs.Rows.{IsForest};
@@ -15,7 +15,7 @@ use layer_paths::{Branch, Cuts, Mark, Name};
 use std::alloc::{AllocError, Allocator};
 
 /// The marks of all paths at which one of two trees has a file, and the other one a directory or
-/// something below: of the files of the upper tree, and of those of the lower one. Both roots are
+/// something below: for files of the upper tree, and for files of the lower one. Both roots are
 /// directories.
 pub(crate) fn clashes_both_ways<T: Cuts, A: Allocator + Copy>(
     alloc: A,
@@ -37,7 +37,7 @@ pub(crate) fn clashes_both_ways<T: Cuts, A: Allocator + Copy>(
     Ok((hidden, replaced))
 }
 
-/// Whether a branch is no directory and has nothing below it.
+/// Whether a branch is not a directory and has nothing below it.
 pub(crate) fn is_bare<T: Cuts, A: Allocator>(branch: &Branch<T, A>) -> bool
     ensures { IsTrue result → IsBare T.removed branch.now }
 {
@@ -118,7 +118,7 @@ fn clash_of<T: Cuts, A: Allocator + Copy>(
     Ok(Some(Branch::new(name, UNCUT, marks)))
 }
 
-/// The same of a file and another branch.
+/// The same for a file and another branch.
 fn file_clash<T: Cuts, A: Allocator + Copy>(
     alloc: A,
     file: &Branch<T, A>,

@@ -19,8 +19,8 @@ pub fn entries_are_the_listing()
         IsTreeOf 0 layers t → IsListing layers (listing t) }
 {}
 
-/// Layers that are the accessible bytes of sound images have a listing, whether or not memory is
-/// enough to make a tree of them.
+/// Layers that are the accessible bytes of sound images have a listing, whether or not memory
+/// suffices to make a tree of them.
 #[tactic(auto, using(crate::proofs::Existing::some_listing))]
 pub fn sound_layers_have_a_listing()
     ensures { (layers : List (List ℕ)) → AllByRecursion IsImage layers →
@@ -28,7 +28,7 @@ pub fn sound_layers_have_a_listing()
 {}
 
 /// Trees of one run of layers have the same entries, cut the same paths and have the same children,
-/// with the same entries below them. So every bracketing of a list of layers gives one answer.
+/// with the same entries below them. So every bracketing of a list of layers gives the same result.
 pub fn one_tree()
     ensures entries { (first : ℕ) (layers : List (List ℕ)) (s t : TreeRows) →
         IsTreeOf first layers s → IsTreeOf first layers t →
@@ -43,16 +43,16 @@ pub fn one_tree()
         at_path (spread cs) (name ∷ q) ≡ at_path (spread ds) (name ∷ q) }
 {}
 
-/// The children of a directory are, by their names, what is one name below it.
+/// The children of a directory are, by their names, the paths one name below it.
 pub fn children_are_one_name_below()
     ensures { (t : TreeRows) (path : Path) (children : List (Subtree Entry)) →
         AreChildren t path children →
         (name : List ℕ) → value_of (named name children) ≡ entry_at t (path ++ name ∷ []) }
 {}
 
-/// Directories of two layers are merged: all of the upper layer is shown, and of the lower one each
-/// path that the upper one has not, unless on the way to it the upper one has a marker for a name,
-/// an opaque marker, or an entry that is no directory. Nothing else is removed.
+/// Directories of two layers are merged: the result shows all of the upper layer, and each path of
+/// the lower one that the upper one lacks, unless the upper one has a marker's name, an opaque
+/// marker, or an entry that is not a directory on the way to it. Nothing else is removed.
 pub fn directories_merge()
     ensures upper { (low high : List ℕ) (path : Path) (h : ℕ) →
         IsPlain path → Has high path h → Shows (low ∷ high ∷ []) path 1 h }
@@ -61,7 +61,7 @@ pub fn directories_merge()
         Shows (low ∷ high ∷ []) path 0 h }
 {}
 
-/// Children are in directories: a path that is no directory, or is not shown, has none.
+/// Children are in directories: a path that is not a directory, or is not shown, has none.
 pub fn children_stand_in_directories()
     ensures { (first : ℕ) (layers : List (List ℕ)) → AllByRecursion IsImage layers →
         (t : TreeRows) → IsTreeOf first layers t → (path : Path) (name : List ℕ) (e : Entry) →

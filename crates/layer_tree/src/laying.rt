@@ -1,9 +1,9 @@
-//! A tree laid on a tree.
+//! One tree laid on another.
 //!
-//! What the upper tree removes is left out of the lower one's entries: what its marks cut, and what
-//! lies below its files. Its entries cover what is left. The marks of both are united, with a mark
-//! for each file of the lower tree on which the upper one lays a directory (`clashes`), since what
-//! that file cuts is cut by the run of both.
+//! The entries of the lower tree lose what the upper tree removes: what its marks cut, and what
+//! lies below its files. Its entries cover what remains. The marks of both are united, with a mark
+//! for each file of the lower tree on which the upper one lays a directory (`clashes`): the run of
+//! both cuts what that file cuts.
 //!
 //! A result that passes through `?` and `Ok` gets a promise in other terms.
 
@@ -21,13 +21,13 @@ use std::alloc::{AllocError, Allocator};
 use std::cmp::Ordering;
 use std::collections::VecDeque;
 
-/// How many marks at most are looked for one by one.
+/// How many marks at most are searched for one by one.
 const FEW: usize = 8;
 
 /// Lays the tree of a run of layers on that of the run just below it: the tree of both together.
 ///
-/// Directories that both have are merged child by child; what only one has is moved unread.
-/// `AllocError` only if memory was refused; both trees are then lost.
+/// Directories that both have are merged child by child; what only one has is moved without being
+/// read. `AllocError` only if memory is refused; both trees are then dropped.
 pub fn lay<A: Allocator + Copy>(
     alloc: A,
     low: Tree<A>,
@@ -40,7 +40,7 @@ pub fn lay<A: Allocator + Copy>(
     laid(alloc, low, high)
 }
 
-/// What is left of branches from a name on, and the first of it if it has the name.
+/// The branches from a name on, and the first of them if it has the name.
 #[inline(never)]
 pub(crate) fn seek<'a, T: Copy + Drop, A: Allocator>(
     branches: &'a [Branch<T, A>],
@@ -61,8 +61,8 @@ pub(crate) fn seek<'a, T: Copy + Drop, A: Allocator>(
     (rest, None)
 }
 
-/// One tree laid on another, as `lay` has it, but said of trees alone: what that says of runs of
-/// layers follows from this.
+/// One tree laid on another, as `lay` does it, but stated of trees alone: what `lay` promises for
+/// runs of layers follows from this.
 fn laid<A: Allocator + Copy>(alloc: A, low: Tree<A>, high: Tree<A>) -> Result<Tree<A>, AllocError>
     ensures { IfOk result (λ tree. Lays low high tree) }
 {
@@ -157,8 +157,8 @@ fn children_left<T: Copy + Drop, A: Allocator + Copy>(
     Ok(left)
 }
 
-/// What marks leave of the branches of a directory. Few marks are looked for one by one, and with
-/// none nothing is looked into. With more both are gone through in step, in the order of names.
+/// What marks leave of the branches of a directory. Few marks are searched for one by one, and
+/// without marks nothing is searched. With more, both are traversed in step, in the order of names.
 #[cycle(keeping)]
 fn kept_below<T: Copy + Drop, A: Allocator + Copy>(
     alloc: A,
@@ -245,7 +245,7 @@ fn keep_inside<T: Copy + Drop, A: Allocator + Copy>(
 /// Takes the first branch from a directory, and adds to `kept` what a mark and those below leave of
 /// it: nothing if the mark cuts the branch itself.
 ///
-/// `AllocError` only if memory was refused; `lows` and `kept` are unspecified then.
+/// `AllocError` only if memory is refused; `lows` and `kept` are unspecified then.
 #[cycle(keeping)]
 fn keep_first<T: Copy + Drop, A: Allocator + Copy>(
     alloc: A,

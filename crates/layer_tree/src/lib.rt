@@ -1,14 +1,14 @@
 //! Layers as trees: the tree of one layer, and trees laid on one another.
 //!
-//! [`Tree::of`](OfLayer::of) gives the tree of one layer, [`tree_of`] that of one whose image is
-//! lent, and [`lay`] that of two runs of layers from theirs. `layer_paths` defines what a tree
-//! shows and cuts, and how it is read.
+//! [`Tree::of`](OfLayer::of) makes the tree of one layer, [`tree_of`] that of a layer whose image
+//! is borrowed, and [`lay`] that of two adjacent runs of layers from their trees. `layer_paths`
+//! defines what a tree shows and cuts, and how it is read.
 //!
 //! `reading` makes the tree of one layer, from the members of directories in the order of their
 //! names (`members`), whose headers and names it reads ahead (`ahead`). `laying` lays one tree on
 //! another; `clashes` finds where one has a file and the other more than a leaf, and `apart` finds
-//! that there is no such path. The crate uses `layer_paths` for trees, `romfs_reader` for images
-//! and `stack_model` for what stacks show.
+//! out that there is no such path. The crate uses `layer_paths` for trees, `romfs_reader` for
+//! images and `stack_model` for what stacks show.
 #![tactic(auto)]
 
 mod ahead;

@@ -1,9 +1,9 @@
 //! The members of a directory in the order of their names.
 //!
-//! Names are anywhere in an image, so a sort that reads two of them for each comparison is slow.
-//! For each member a key, the place of its header and the length of its name are kept, 16 bytes,
-//! and sorted by key; names are read again only if keys are equal. A key is eight bytes of a name
-//! as a number, the first ones after the common front of the directory's names, since names such as
+//! Names are scattered over an image, so a sort that reads two of them for each comparison is slow.
+//! Instead, a key, the place of its header and the length of its name are kept for each member, 16
+//! bytes, and sorted by key; names are read again only if keys are equal. A key is eight bytes of a
+//! name as a number, the first ones after the common front of the directory's names: names such as
 //! `file-000017` and `file-000018` are equal up to there.
 
 ghost use Rattle.std.specs.Prelude.{◌≡◌, ◌≤◌, [], ◌++◌, length, map, IfOk, IsFalse, All, MatchOption};
@@ -28,15 +28,15 @@ const FEW: usize = 16;
 /// A member of a directory, by the place of its header.
 #[derive(Clone, Copy)]
 pub(crate) struct KeyedMember {
-    /// Eight bytes of the name as a number, behind a front that all names of the directory share.
+    /// Eight bytes of the name as a number, after the front that all names of the directory share.
     pub key: u64,
     pub offset: u32,
     /// How many bytes its name has.
     pub name_len: u32,
 }
 
-/// The members of a directory in the order of their names. It reads each header once, and sorts;
-/// names that begin alike are read once more, for keys after their front.
+/// The members of a directory in the order of their names. Each header is read once, then the
+/// members are sorted; names that begin alike are read once more, for keys after their front.
 #[inline(never)]
 pub(crate) fn sorted_members<A: Allocator + Copy>(
     alloc: A,
@@ -55,7 +55,7 @@ pub(crate) fn sorted_members<A: Allocator + Copy>(
     Ok(members)
 }
 
-/// The part of a marker's name after `.wh.`; none if the name is no marker's.
+/// The part of a marker's name after `.wh.`; none if the name is not a marker's.
 pub(crate) fn whiteout_of(name: &[u8]) -> Option<&[u8]>
     ensures { MatchOption result (¬ IsMarker name.now) (λ rest. name.now ≡ marker ++ rest.now) }
 {
@@ -66,8 +66,8 @@ pub(crate) fn whiteout_of(name: &[u8]) -> Option<&[u8]>
     }
 }
 
-/// Members, each with the key of its full name, and how many bytes all their names share at the
-/// front.
+/// Members, each with the key of its full name, and how many bytes at the front all their names
+/// share.
 fn keyed_members<A: Allocator + Copy>(
     alloc: A,
     image: &ImageView<'_>,
@@ -102,8 +102,8 @@ fn key_of(name: &[u8]) -> u64
     layer_names::key_of(name)
 }
 
-/// What names begin with that all begin with this front, and this name, too; with no name before
-/// it that is the name.
+/// The common front of names that all begin with `front`, and of this name; the name itself if
+/// there is no name before it.
 #[tactic(auto, using(crate::proofs::Keyed::begins_itself))]
 fn front_with<'a>(front: &'a [u8], is_first: bool, name: &'a [u8]) -> &'a [u8]
     ensures name { HasFront result.now name.now }
@@ -112,7 +112,7 @@ fn front_with<'a>(front: &'a [u8], is_first: bool, name: &'a [u8]) -> &'a [u8]
     if is_first { name } else { shared(front, name) }
 }
 
-/// What two names both begin with.
+/// The common front of two names.
 fn shared<'a>(x: &'a [u8], y: &[u8]) -> &'a [u8]
     ensures first { HasFront result.now x.now }
     ensures second { HasFront result.now y.now }
@@ -120,7 +120,7 @@ fn shared<'a>(x: &'a [u8], y: &[u8]) -> &'a [u8]
     &x[..layer_names::shared(x, y)]
 }
 
-/// Gives members whose names begin alike keys that distinguish them.
+/// Gives members with a common front keys that distinguish them.
 fn tell_apart(image: &ImageView<'_>, members: &mut [KeyedMember], shared: usize)
     requires read { All (IsRead image.now) members.old }
     requires keyed { All (IsKeyed image.now []) members.old }

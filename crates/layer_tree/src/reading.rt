@@ -1,12 +1,12 @@
-//! One layer read as a tree.
+//! One layer, read as a tree.
 //!
-//! A directory's members are sorted by name once. Those that are no markers become branches of
-//! entries. Markers become marks for the names they have, laid on those of the directories below.
-//! An opaque marker makes the directory's own mark opaque. A directory with no marker at all has no
-//! mark, but for the root.
+//! A directory's members are sorted by name once. Members that are not markers become branches of
+//! entries. Markers become marks for the names that they remove, laid on those of the directories
+//! below. An opaque marker makes the directory's own mark opaque. A directory without markers in it
+//! or below has no mark, except the root.
 //!
-//! It takes n log n steps in the members of the layer and the hard links that they lead to: ends of
-//! hard links that were found are kept while the tree is made.
+//! It takes n log n steps in the members of the layer and the hard links that they lead to: where
+//! hard links end is remembered while the tree is made.
 
 ghost use Rattle.std.specs.Prelude.{◌≡◌, ◌≢◌, [], ◌∷◌, ◌++◌, ◌↔◌, length, All, IfOk, OnOk, IsTrue, MatchOption, is_some};
 ghost use Rattle.romfs_format.specs.Heads.{head_of, name_of};
@@ -57,7 +57,7 @@ impl<A: Allocator + Copy> OfLayer for Tree<A> {
 
     type Image = Image<A>;
 
-    /// The tree of one layer, as [`tree_of`] makes it of the image that is lent.
+    /// The tree of one layer, as [`tree_of`] makes it from a borrowed image.
     fn of(alloc: A, image: &Image<A>, layer: u16) -> Result<Tree<A>, AllocError>
         ensures { IfOk result (λ tree. IsTreeOf layer (image.now.bytes ∷ []) tree) }
     {
@@ -67,9 +67,9 @@ impl<A: Allocator + Copy> OfLayer for Tree<A> {
 
 /// The tree of one layer, which has this number among the layers.
 ///
-/// A marker is a mark and no entry, with all below it; a marker that ends after `.wh.` marks the
-/// empty name. A hard link has the kind and the place of the header where it ends. `AllocError`
-/// only if memory was refused.
+/// A marker becomes a mark, and neither it nor anything below it is an entry; a marker whose name
+/// ends after `.wh.` marks the empty name. A hard link has the kind and the place of the header
+/// where it ends. `AllocError` only if memory is refused.
 pub fn tree_of<A: Allocator + Copy>(
     alloc: A,
     image: &ImageView<'_>,
@@ -94,7 +94,7 @@ pub(crate) fn leaf<T: Copy + Drop, A: Allocator>(alloc: A, name: Name<A>, value:
     Branch::new(name, value, Vec::new(alloc))
 }
 
-/// A layer that is read, and the allocator for its tree.
+/// A layer that is being read, and the allocator for its tree.
 #[derive(Drop)]
 struct Layer<'a, A: Allocator> {
     alloc: A,
@@ -130,8 +130,8 @@ fn directory<A: Allocator + Copy>(
     folder(layer, name, head, &members, below)
 }
 
-/// A header at which the image gave one before, and its name of a known length: apart from the
-/// level that goes deeper, whose stack stays small.
+/// A header at which the image had one before, and its name of a known length. It is a function of
+/// its own, so the stack of the recursive one stays small.
 #[inline(never)]
 fn given_named<'a>(image: &ImageView<'a>, offset: u32, name_len: u32) -> NamedHead<'a>
     requires head { IsGiven image.now (head_of image.now offset) }
@@ -143,7 +143,7 @@ fn given_named<'a>(image: &ImageView<'a>, offset: u32, name_len: u32) -> NamedHe
     image.given_named(offset, name_len)
 }
 
-/// The branches of members that are no markers, in the same order.
+/// The branches of members that are not markers, in the same order.
 #[cycle(reading)]
 fn branches_below<A: Allocator + Copy>(
     layer: &Layer<'_, A>,
@@ -176,10 +176,10 @@ fn branches_below<A: Allocator + Copy>(
     Ok(made)
 }
 
-/// Adds the file of a header with all below it, under a name, and what is cut there, if anything
-/// is. A path to the header has `left` names less than [`MAX_NAMES`].
+/// Adds the file of a header with everything below it, under a name, and what is cut there, if
+/// anything. A path to the header has `left` names less than [`MAX_NAMES`].
 ///
-/// `AllocError` only if memory was refused; `to` is unspecified then.
+/// `AllocError` only if memory is refused; `to` is unspecified then.
 #[cycle(reading)]
 fn add_branches<A: Allocator + Copy>(
     layer: &Layer<'_, A>,
@@ -205,9 +205,9 @@ fn add_branches<A: Allocator + Copy>(
     }
 }
 
-/// Adds an entry that is no directory; it needs no mark.
+/// Adds an entry that is not a directory; it needs no mark.
 ///
-/// `AllocError` only if memory was refused; `to` is unspecified then.
+/// `AllocError` only if memory is refused; `to` is unspecified then.
 #[inline(never)]
 fn add_file<A: Allocator + Copy>(
     layer: &Layer<'_, A>,
@@ -229,7 +229,7 @@ fn add_file<A: Allocator + Copy>(
     Ok(())
 }
 
-/// A directory, and its mark, over the branches of its members.
+/// A directory and its mark, from the branches of its members.
 fn folder<A: Allocator + Copy>(
     layer: &Layer<'_, A>,
     name: &[u8],
@@ -253,9 +253,9 @@ fn folder<A: Allocator + Copy>(
     Ok((entries, marks))
 }
 
-/// The same, added to others; a directory needs none if no member is a marker or has a mark.
+/// The same, added to others; a directory needs no mark if no member is a marker or has a mark.
 ///
-/// `AllocError` only if memory was refused; `to` is unspecified then.
+/// `AllocError` only if memory is refused; `to` is unspecified then.
 #[inline(never)]
 fn add_folder<A: Allocator + Copy>(
     layer: &Layer<'_, A>,
@@ -293,7 +293,7 @@ fn is_plain<A: Allocator>(members: &[KeyedMember], below: &Branches<A>) -> bool
     below.entries.len() == members.len() && below.marks.is_empty()
 }
 
-/// The mark, if it or one below it cuts anything, and none else.
+/// The mark if it or one below it cuts anything, otherwise none.
 fn needed<A: Allocator>(mark: Branch<Mark, A>) -> Option<Branch<Mark, A>>
     ensures { MatchOption result (IsBlank mark) (λ same. (same ≡ mark) × ¬ IsBlank mark) }
 {
@@ -307,9 +307,9 @@ fn is_blank<A: Allocator>(mark: &Branch<Mark, A>) -> bool
     !mark.value().cut && !mark.value().opaque && mark.children().is_empty()
 }
 
-/// Adds a mark to a list, which gets room for one at first: most have no more.
+/// Adds a mark to a list, which at first gets room for one: most have no more.
 ///
-/// `AllocError` only if memory was refused; `to` is unspecified then.
+/// `AllocError` only if memory is refused; `to` is unspecified then.
 fn add_mark<A: Allocator>(
     to: &mut Vec<Branch<Mark, A>, A>,
     mark: Branch<Mark, A>,

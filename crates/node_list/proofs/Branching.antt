@@ -1,6 +1,5 @@
--- The lines below a directory are those of its children in order, each with the lines below it:
--- `all_below`. It goes over the entries with the child that it is in; `outside`, `child` and
--- `deeper` are its three steps, and `IsLeft` is what a step may take for granted.
+-- The lines below a directory are those of its children in order, each followed by the lines below it: `all_below`. It traverses the
+-- entries with the child that it is in; `outside`, `child` and `deeper` are its three steps, and `IsLeft` is what a step may assume.
 use Rattle.std.proofs.Common.{◌≡◌, ◌∙◌, sym, ap, ℕ, ◌⊎◌, inl, inr, List, [], ◌∷◌, ◌++◌, refl, Option, Some, None, true, false, append_assoc}
 use Rattle.std.specs.Prelude.{flat_map, filter_map}
 use Rattle.std.specs.declared.cmp.Ordering.{Ordering}

@@ -1,4 +1,4 @@
--- Where a list ends: all lines were put (`listed`), or the sink failed as it took them (`broken`).
+-- How a list ends: all lines were put (`listed`), or the sink failed while it took them (`broken`).
 use Rattle.std.proofs.Common.{◌≡◌, sym, subst, [], Ok, Err, append-nil, arith}
 use Rattle.std.specs.Prelude.{Result, IfErr, IsErrAnd}
 use Rattle.stack_model.specs.Listing.{Stacked}
@@ -21,7 +21,7 @@ listed table p q before after =
       flushed = omega (arith, a, b);
     }
 
--- all lines were put, and what of them was on its way was not handed on
+-- all lines were put, and those still on their way were not handed on
 pub broken : {X Y Z E F : Type 0} {x : X} {f : F} {u v w : Passage} (table : Stacked) (r : Result Z ListFault)
     → IsErrAnd r (λ fault. fault ≡ Write) → Puts {E = E} (Ok x) u v (lines table)
     → Puts {X = Y} (Err f) v w [] → u.waiting ≡ [] → IfErr r (IsBrokenOff table u.sink w.sink)

@@ -1,6 +1,5 @@
--- Texts that are put one after another: nothing is put by no call (`puts_none`), and by two calls,
--- of which the second may fail, what each puts (`puts_more`). A text, a name or a path grows by its
--- next part.
+-- Texts that are put one after another: no call puts nothing (`puts_none`), and two calls, of which the second may fail, put what each puts
+-- (`puts_more`). A text, a name or a path grows by its next part.
 use Rattle.std.proofs.Common.{◌≡◌, ◌∙◌, sym, ap, subst, ℕ, zero, suc, ◌+◌, ◌<◌, ◌≤◌, ◌⊎◌, inl, inr, List, [], ◌∷◌, ◌++◌, length, take, get_or, refl, arith, add-one, append-nil, append_assoc}
 use Rattle.std.specs.Prelude.{flat_map, Result, Ok, Err, OnOk, IsErr}
 use Rattle.std.specs.Io.KnownBytes.{Appends}
@@ -13,7 +12,7 @@ use Rattle.devices.specs.States.{SinkState}
 use Rattle.devices.specs.Pushing.{GainsFront, HandsOn, Settles}
 use Rattle.node_list.specs.Walks.{Passage, passage, Gains, Loses, Puts}
 
--- where nothing was put, nothing is gained
+-- if nothing was put, nothing is gained
 pub puts_none : {X E : Type 0} (x : X) (w : Passage) → Puts {E = E} (Ok x) w w []
 puts_none x w = record {
   gained = record { put = []; gained = Appends-nil w.sink.held; left = append-nil w.waiting };
@@ -21,7 +20,7 @@ puts_none x w = record {
   counted = (refl, omega arith);
 }
 
--- what was on its way, with what comes behind it and behind that, where the first of it went on
+-- two steps as one: bytes are added to what is on its way twice, and each time its first bytes are handed on
 on_and_on : (u xs p v ys q r : List ℕ) → u ++ xs ≡ p ++ v → v ++ ys ≡ q ++ r → u ++ (xs ++ ys) ≡ (p ++ q) ++ r
 on_and_on u xs p v ys q r e f =
     sym (append_assoc u xs ys) ∙ ap (λ t. t ++ ys) e ∙ append_assoc p v ys ∙ ap (λ t. p ++ t) f ∙ sym (append_assoc p q r)
@@ -56,7 +55,7 @@ loses_longer {u} {w} {xs} ys l = let x = l.gained in record {
   };
 }
 
--- what is lost may be told by any equal text
+-- what is lost may be given by any equal text
 pub loses_same : {u w : Passage} {xs ys : List ℕ} → xs ≡ ys → Loses u w xs → Loses u w ys
 loses_same e x = rw (sym e) x
 
@@ -66,13 +65,13 @@ pub failed_longer : {X E Y F : Type 0} {e : F} {u w : Passage} {xs : List ℕ} (
 failed_longer (Ok x) ys i p = absurd (cc)
 failed_longer (Err d) ys i p = record { gained = tt; lost = loses_longer ys p.lost; counted = p.counted }
 
--- all that was put and is no more on its way went to the sink
+-- everything that was put and is no longer on its way has reached the sink
 pub all_put : {u w : Passage} {xs : List ℕ} → Gains u w xs → u.waiting ≡ [] → w.waiting ≡ [] → Appends u.sink.held w.sink.held xs
 all_put {u} {w} {xs} x before after =
     let is : xs ≡ x.put = sym (ap (λ l. l ++ xs) before) ∙ x.left ∙ ap (λ l. x.put ++ l) after ∙ append-nil x.put in
     subst (Appends u.sink.held w.sink.held) (sym is) x.gained
 
--- what is lost where nothing was on its way is the first of the text
+-- what is lost if nothing was on its way is the first of the text
 pub front_lost : {u w : Passage} {xs : List ℕ} → Loses u w xs → u.waiting ≡ [] → GainsFront xs u.sink.held w.sink.held
 front_lost {u} {w} {xs} l before = let x = l.gained in
     record { put = x.put; more = x.more; front = sym (ap (λ t. t ++ xs) before) ∙ x.front; gained = x.gained }
@@ -91,11 +90,11 @@ puts_more {q = Err e} f g = record {
   counted = g.counted ∙ ap (λ n. n + 1) f.counted.0;
 }
 
--- what is gained may be told by any equal text
+-- what is gained may be given by any equal text
 pub gains_same : {u w : Passage} {xs ys : List ℕ} → xs ≡ ys → Gains u w xs → Gains u w ys
 gains_same e x = rw (sym e) x
 
--- what is put may be told by any equal text
+-- what is put may be given by any equal text
 pub puts_same : {Y F : Type 0} {q : Result Y F} {u w : Passage} {xs ys : List ℕ} → xs ≡ ys → Puts q u w xs → Puts q u w ys
 puts_same e x = rw (sym e) x
 
@@ -123,7 +122,7 @@ drained {q = Err e} waiting left old new h none = record {
   counted = settled (Err e) waiting old new h;
 }
 
--- bytes are handed on where nothing was on its way, and is then
+-- if nothing was on its way, bytes are handed on, and nothing is on its way then
 pub handed_on : {q : Result (Unit {0}) Failed} (bytes waiting : List ℕ) (old new : SinkState) → HandsOn bytes old new q
     → waiting ≡ [] → Puts q (passage old waiting) (passage new waiting) bytes
 handed_on {q = Ok u} bytes waiting old new h none = record {
@@ -143,7 +142,7 @@ handed_on {q = Err e} bytes waiting old new h none = record {
   counted = settled (Err e) bytes old new h;
 }
 
--- bytes come behind what is on its way, and none goes on
+-- bytes are added to what is on its way, and none is handed on
 pub put_by : {X E : Type 0} (x : X) (sink : SinkState) (waiting bytes more : List ℕ) → more ≡ waiting ++ bytes
     → Puts {E = E} (Ok x) (passage sink waiting) (passage sink more) bytes
 put_by x sink waiting bytes more e = record {

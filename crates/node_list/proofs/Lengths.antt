@@ -1,6 +1,5 @@
--- No path of a sound image is printed longer than `LONGEST`: it has at most `MAX_NAMES` names, none
--- of them is as long as the field that it is read from (`name_length`), and of each byte at most
--- three are printed (`text_length`). `are_short` says that of all shown paths.
+-- No path of a sound image is printed longer than `LONGEST`: it has at most `MAX_NAMES` names, each of them is shorter than the field that
+-- it is read from (`name_length`), and each byte is printed as at most three (`text_length`). `are_short` says so for all shown paths.
 use Rattle.std.proofs.Common.{◌≡◌, ℕ, zero, suc, ◌+◌, ◌*◌, ◌<◌, ◌≤◌, List, [], ◌∷◌, length, drop, Option, Some, None, Bool, true, false, arith, refl, length-append, length-take}
 use Rattle.std.specs.Option.{option_map}
 use Rattle.romfs_format.specs.declared.limits.TheConstants.{HEAD_SIZE, NAME_FIELD_SIZE, MAX_NAMES}

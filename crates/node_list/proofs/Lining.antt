@@ -1,6 +1,5 @@
--- The line of a number, by its attributes: what the code writes of a node, from its fields, is the
--- line that the definition gives its number (`line_is`). The fields are written from the last to the
--- first, and stand in a row then (`in_a_row`).
+-- The line of a number, from its attributes: what the code writes for a node, from its fields, is the line that the definition gives its
+-- number (`line_is`). The fields are written from last to first, and are then in a row (`in_a_row`).
 use Rattle.std.proofs.Common.{◌≡◌, ℕ, List, [], ◌∷◌, ◌++◌, Some, refl, append-nil, append_assoc}
 use Rattle.stack_model.specs.Numbers.{Place, node_of}
 use Rattle.stack_model.specs.Attributes.{attr_of}
@@ -20,7 +19,7 @@ line_is stack n text p attr e f =
     let v : attr ≡ attr_of stack p = cc in
     rw (e, v) refl
 
--- texts that stand one before the other are these in a row
+-- texts, each before the next, are these in a row
 pub in_a_row : (a b c d e : List ℕ) {t u v w x y : List ℕ} → t ≡ a ++ u → u ≡ b ++ v → v ≡ c ++ w → w ≡ d ++ x → x ≡ e ++ y → y ≡ []
     → t ≡ a ++ b ++ c ++ d ++ e
 in_a_row a b c d e f g h i j k = rw (f, g, h, i, j, k) (simp (append_assoc, append-nil) refl)

@@ -1,6 +1,5 @@
--- The paths of a sound image: each header has one, and each stands in directories. `one_way` is the
--- main lemma: of two ways down to a header both are the same, as a header stands in one chain. Of
--- that `one_directory` follows for directories, to which no hard link leads.
+-- The paths of a sound image: each header has one, and each is in directories. `one_way` is the main lemma: two ways down to a header are
+-- the same, as a header is in one chain. From it `one_directory` follows for directories, to which no hard link leads.
 use Rattle.std.proofs.Common.{◌≡◌, ◌∙◌, sym, ap, subst, ℕ, zero, suc, ◌⊎◌, inl, inr, List, [], ◌∷◌, ◌++◌, refl, Some}
 use Rattle.std.proofs.lemmas.Bool.{cases_eq}
 use Rattle.romfs_format.specs.declared.head.Kind.TheVariants.{HardLink, Directory}
@@ -35,7 +34,7 @@ module _ (a : List ℕ) (i : IsImage a) where
   down [] up d h w e = subst (λ x. IsDown up x) e w
   down (n ∷ path) up d h w (c, m, s, l) = down path (n ∷ up) c h (d, w, m, s) l
 
-  -- a header stands in one chain
+  -- a header is in one chain
   one_chain : (d e k l h : ℕ) → IsOpened a d → IsOpened a e → IsAt a d k h → IsAt a e l h → d ≡ e
   one_chain d e zero zero h o p x y = elim (cases_eq d e) [
     | inl s ↦ s
@@ -118,7 +117,7 @@ module _ (a : List ℕ) (i : IsImage a) where
       let t : y.header ≡ e = straight q y.header e y.has y.final k in
       one_path p q e (subst (λ z. Has a p z) s x.has) (subst (λ z. Has a q z) t y.has)
 
-  -- a directory is where it stands
+  -- hard links from a directory end at itself
   pub directory_stays : (h e : ℕ) → kind a h ≡ Directory → IsFinal a h e → e ≡ h
   directory_stays h e k (stays n) = refl
   directory_stays h e k (follows l r) = absurd (let j = l.1 in let z : HardLink ≡ Directory = sym j ∙ k in cc)
@@ -134,7 +133,7 @@ module _ (a : List ℕ) (i : IsImage a) where
   opened_directory (at_root e) = rw e (root_directory a i)
   opened_directory (below o c n s k) = k
 
-  -- a path stands in a directory
+  -- a path is in a directory
   pub upper : (top path : Path) (n : List ℕ) (h : ℕ) → Has a (top ++ n ∷ path) h → (d : ℕ) × Has a top d × (kind a d ≡ Directory)
   upper top path n h x = go top (root a) x
     where

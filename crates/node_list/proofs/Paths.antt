@@ -1,6 +1,5 @@
--- Paths that begin with the names of another path. The main lemmas are `after_is` and `is_after`:
--- the names after those of `top` are just what follows it. The others put that in the words of the
--- order of paths, of what is below, and of names of children.
+-- Paths that begin with the names of another path. The main lemmas are `after_is` and `is_after`: the names after those of `top` are
+-- exactly what follows it. The others restate this for the order of paths, for what is below, and for names of children.
 use Rattle.std.proofs.Common.{◌≡◌, ◌≢◌, ◌∙◌, sym, ap, ℕ, inl, inr, List, [], ◌∷◌, ◌++◌, refl, Option, Some, None, true, false}
 use Rattle.std.specs.declared.cmp.Ordering.TheVariants.{Less, Greater}
 use Rattle.std.specs.Cmp.{IsTotalOrder}
@@ -51,7 +50,7 @@ after_is (m ∷ top) (n ∷ path) r e = elim (same_or_not m n) [
   | inr x ↦ absurd (let g = rw x.1 at e in cc)
 ]
 
--- after the names of a path stands what was put behind it
+-- the names of a path are followed by what was appended
 pub is_after : (top r : Path) → after top (top ++ r) ≡ Some r
 is_after [] r = refl
 is_after (m ∷ top) r = rw (same_is_true m) (is_after top r)

@@ -1,6 +1,5 @@
--- The text of a name, whose first bytes are a run that is printed as itself. `run_none` to `run_all`
--- say how a run grows. `name_put` is the main lemma: where a run and the text of what is behind it were
--- put, the name was; and each had room (`run_fits`, `byte_fits`), since the whole name has.
+-- The text of a name, whose first bytes are a run that is printed unescaped. `run_none` to `run_all` say how a run grows. `name_put` is the
+-- main lemma: if a run and the text after it were put, the name was; and each had room (`run_fits`, `byte_fits`), since the full name has.
 use Rattle.std.proofs.Common.{◌≡◌, ◌∙◌, sym, ap, ℕ, ◌+◌, ◌<◌, ◌≤◌, List, [], ◌∷◌, ◌++◌, length, take, drop, get_or, true, arith, refl, append-nil, append_assoc, length-append, take_all, take-append-drop}
 use Rattle.std.proofs.lemmas.List.{take_more}
 use Rattle.std.proofs.lemmas.List.Concat.{flat_map-append}
@@ -26,7 +25,7 @@ run_more name i l e run =
     sym (name_more name i l) ∙ ap (λ t. t ++ escaped (get_or name i 0)) run
     ∙ ap (λ t. take i name ++ t) (as_itself (get_or name i 0) e) ∙ sym (take_more name i 0 l)
 
--- a run that goes to the end of the name is the whole name
+-- a run up to the end of the name is the full name
 pub run_all : (name : List ℕ) (i n : ℕ) → length name ≤ i → n ≡ length name → IsRun name i → IsRun name n
 run_all name i n l e run =
     ap (λ xs. name_text xs) (all_of n (omega (arith, e))) ∙ sym (ap name_text (all_of i l)) ∙ run ∙ all_of i l
@@ -39,7 +38,7 @@ text_joined : (xs ys : List ℕ) → name_text xs ++ name_text ys ≡ name_text 
 unfolding name_text
 text_joined xs ys = sym (flat_map-append escaped xs ys)
 
--- a name is cut behind i bytes, a run
+-- a name is cut after i bytes, a run
 pub record IsCut (name run others : List ℕ) (i : ℕ) : Type 0 where
   pub plain : IsRun name i
   pub front : run ≡ take i name
@@ -65,18 +64,18 @@ next_fits name i l =
     ∙ ap length (text_joined (take (i + 1) name) (drop (i + 1) name)) ∙ ap (λ t. length (name_text t)) (take-append-drop (i + 1) name) in
     omega (arith, e, f)
 
--- a text went on with a slash, the run of a name and the text of k bytes behind it
+-- a text followed by a slash, the run of a name and the text of k bytes after it
 pub record GoesOn (text slash front here run others : List ℕ) (k : ℕ) : Type 0 where
   pub slash_is : slash ≡ text ++ 47 ∷ []
   pub front_is : front ≡ slash ++ run
   pub here_is : here ≡ front ++ name_text (take k others)
 
--- behind the run stands the text of no bytes
+-- the run is followed by the text of no bytes
 pub put_none : (front others : List ℕ) → front ≡ front ++ name_text (take 0 others)
 unfolding name_text
 put_none front others = sym (append-nil front)
 
--- behind the run stands the text of one byte more
+-- the run is followed by the text of one more byte
 pub put_more : (front others : List ℕ) {here next : List ℕ} (k : ℕ) → here ≡ front ++ name_text (take k others) → k < length others
     → next ≡ here ++ escaped (get_or others k 0) → next ≡ front ++ name_text (take (k + 1) others)
 put_more front others k e l f =
@@ -103,7 +102,7 @@ module _ (name text : List ℕ) (room : length text + length (name_text name) < 
       let f = next_fits others k l in
       omega (arith, a, b, d, e, f, room)
 
--- where all bytes behind the run are put, the name is
+-- if all bytes after the run are put, the name is
 pub name_put : {name text run others slash front here : List ℕ} {i k : ℕ} → IsCut name run others i
     → GoesOn text slash front here run others k → length others ≤ k → here ≡ text ++ 47 ∷ name_text name
 name_put {name} {text} {run} {others} {slash} {front} {here} {i} {k} c g l =

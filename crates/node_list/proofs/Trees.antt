@@ -82,7 +82,7 @@ module _ (top path : Path) (n : List ℕ) where
   cuts_more : (a : List ℕ) → IsPlain full → Cuts a top → Cuts a full
   cuts_more a p (t, (q, y, rest, e, c)) = (p, (q, y, rest ++ n ∷ path, ap (λ r. r ++ n ∷ path) e ∙ append_assoc q (y ∷ rest) (n ∷ path), c))
 
-  -- a layer that has the path above as no directory cuts the path
+  -- a layer that has the path above as something other than a directory cuts the path
   other_cuts : (a : List ℕ) → IsImage a → IsPlain full → (g : ℕ) → Has a top g → kind a g ≢ Directory → Cuts a full
   other_cuts a i p g h k = elim (snoc top) [
     | inl e ↦ absurd (let z : root a ≡ g = subst (λ r. Has a r g) e h in k (rw (sym z) (root_directory a i)))

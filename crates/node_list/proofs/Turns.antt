@@ -1,6 +1,5 @@
--- The turns of a walk over the rows of a directory: before the first nothing is put (`no_turn`), each
--- puts the line of its row and the lines below that (`turn_more`), and all of them put the lines
--- below the directory (`all_turns`).
+-- The turns of a walk over the rows of a directory: before the first nothing is put (`no_turn`), each puts the line of its row and the
+-- lines below it (`turn_more`), and all of them put the lines below the directory (`all_turns`).
 use Rattle.std.proofs.Common.{◌≡◌, ◌∙◌, sym, ap, ℕ, ◌+◌, ◌<◌, ◌≤◌, List, [], ◌∷◌, ◌++◌, length, take, drop, get_or, Ok, Err, append_assoc, length-append, take_all, take-append-drop, arith}
 use Rattle.std.proofs.lemmas.List.{take-append-le}
 use Rattle.std.proofs.lemmas.List.Concat.{flat_map-append}
@@ -21,12 +20,12 @@ use Rattle.node_list.proofs.Visits.{IsTurn, fits, goes_on, walked}
 abbrev pub pieces : Stacked → List Line → Path → List ℕ
 pieces stack rows path = flat_map (piece_at stack path) rows
 
--- the calls so far put what this is of the path that is visited at this number and this text, and none failed
+-- the calls so far put this part for the path that is visited at this number and this text, and none failed
 pub record PutsSoFar (stack : Stacked) (n : ℕ) (text : List ℕ) (old new : Passage) (bytes : Path → List ℕ) : Type 0 where
   pub gained : (path : Path) → IsVisited stack n text path → Gains old new (bytes path)
   pub counted : Settles {X = Unit {0}} {E = Failed} (Ok tt) old.sink new.sink
 
--- a text that went on and is cut back is as it was
+-- a text that grew and is cut back is unchanged
 pub cut_back : (text more : List ℕ) {n : ℕ} {long : List ℕ} → long ≡ text ++ more → n ≡ length text → take n long ≡ text
 cut_back text more {n} {long} e f = ap (λ q. take n q) e ∙ ap (λ k. take k (text ++ more)) f
     ∙ take-append-le (length text) text more (omega arith) ∙ take_all (length text) text (omega arith)
@@ -38,7 +37,7 @@ module _ (stack : Stacked) (n : ℕ) (text : List ℕ) where
       let p = puts_none {X = Unit {0}} {E = Failed} tt w in
       record { gained = λ path v. p.gained; counted = p.counted }
 
-  -- the name of the row whose turn it is has room behind the text
+  -- the name of the row whose turn it is has room after the text
   pub name_fits : {rows : List Line} {i m : ℕ} {name : List ℕ} → IsOnWay stack n text → IsTurn stack n rows i m name
       → length text + length (name_text name) < LONGEST
   name_fits {name = name} v t =
@@ -46,7 +45,7 @@ module _ (stack : Stacked) (n : ℕ) (text : List ℕ) where
       let e = length-append text (47 ∷ name_text name) in
       omega (arith, l, e)
 
-  -- the walk goes on to the row whose turn it is
+  -- the walk continues to the row whose turn it is
   pub on_way : {rows : List Line} {i m : ℕ} {name : List ℕ} → IsOnWay stack n text → IsTurn stack n rows i m name
       → IsOnWay stack m (text ++ 47 ∷ name_text name)
   on_way v t = (_, goes_on stack n text v.0 v.1 t)
@@ -77,7 +76,7 @@ module _ (stack : Stacked) (n : ℕ) (text : List ℕ) where
     );
   }
 
-  -- what the rows before one put, what this one puts and what those behind it put are the lines below the directory
+  -- what the rows before one put, what this one puts and what those after it put are the lines below the directory
   all_pieces : (path : Path) → IsVisited stack n text path → (rows : List Line) (i : ℕ) (row : Line) → rows ≡ rows_at stack n
       → i < length rows → get_or rows i row ≡ row
       → flat_map (piece_at stack path) (take i rows) ++ (piece_at stack path row ++ flat_map (piece_at stack path) (drop (i + 1) rows))
@@ -108,7 +107,7 @@ module _ (stack : Stacked) (n : ℕ) (text : List ℕ) where
       ap (λ q. q ++ lines_below stack (path ++ name ∷ [])) (ap (λ q. line_as stack m (printed q)) on.text_is)
       ∙ ap (piece_at stack path) row_is
 
-  -- where the line of a row is not put, the lines below the directory are not
+  -- if the line of a row is not put, the lines below the directory are not
   pub line_broken : {X E Y F : Type 0} {e : F} {u v w : Passage} {rows : List Line} {i m : ℕ} {name : List ℕ}
       (r : Result X E) → IsTurn stack n rows i m name
       → PutsSoFar stack n text u v (pieces stack (take i rows))
@@ -129,7 +128,7 @@ module _ (stack : Stacked) (n : ℕ) (text : List ℕ) where
     counted = line.counted ∙ ap (λ k. k + 1) before.counted.0;
   }
 
-  -- where the lines below a row are not put, the lines below the directory are not
+  -- if the lines below a row are not put, the lines below the directory are not
   pub below_broken : {X E Y Z F G : Type 0} {e : F} {u v w x : Passage} {rows : List Line} {i m : ℕ}
       {name : List ℕ} {y : Y} (r : Result X E) → IsTurn stack n rows i m name
       → PutsSoFar stack n text u v (pieces stack (take i rows))

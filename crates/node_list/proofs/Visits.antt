@@ -1,6 +1,5 @@
--- What a walk finds at a directory: the rows are those of the entries one name below it. `goes_on`
--- and `walked` are what the walk stands on: each row leads to a visit, and the pieces of all rows
--- are all lines below the path.
+-- What a walk finds at a directory: the rows are those of the entries one name below it. `goes_on` and `walked` are what the walk uses:
+-- each row leads to a visit, and the pieces of all rows are all lines below the path.
 use Rattle.std.proofs.Common.{◌≡◌, ◌∙◌, sym, ap, subst, ℕ, zero, suc, ◌<◌, ◌≤◌, inl, inr, List, [], ◌∷◌, ◌++◌, length, map, take, get_or, refl, Option, Some, None, Bool, true, false, IsSome, arith}
 use Rattle.std.specs.Prelude.{flat_map, filter_map, find, nat_eq}
 use Rattle.std.proofs.lemmas.List.{take_all}
@@ -145,7 +144,7 @@ module _ (stack : Stacked) (n : ℕ) (text : List ℕ) (path : Path) (v : IsVisi
       let p : f.0.path ≡ path = v.tree.once f.0 v.entry f.2 v.among f.3 (rw f.3 k) ∙ v.path_is in
       rw (at_node, k, f.1, p) refl
 
-  -- nothing is below what is no directory
+  -- nothing is below what is not a directory
   none_there : is_directory_at layers (place v.entry) ≡ false → rows_at stack n ≡ []
   none_there k = rw (at_node, k) refl
 
@@ -197,7 +196,7 @@ module _ (stack : Stacked) (n : ℕ) (text : List ℕ) (path : Path) (v : IsVisi
     text_is = ap (λ t. t ++ 47 ∷ name_text row.name) v.text_is ∙ way_more path row.name;
   }
 
-  -- the walk goes on to the row whose turn it is
+  -- the walk continues to the row whose turn it is
   pub goes_on : {rows : List Line} {i m : ℕ} {name : List ℕ} → IsTurn stack n rows i m name
       → IsVisited stack m (text ++ 47 ∷ name_text name) (path ++ name ∷ [])
   goes_on {rows} {i} {m} {name} t =

@@ -1,5 +1,5 @@
--- The whole list: the root's line, and those of all below it. `begun` says so if there are nodes, and `none` if there are none; what is
--- below the root is all entries but the first.
+-- The entire list: the root's line, and those of everything below it. `begun` says so if there are nodes, and `none` if there are none;
+-- what is below the root is all entries but the first.
 use Rattle.std.proofs.Common.{◌≡◌, ◌∙◌, sym, ap, subst, ℕ, inl, inr, List, [], ◌∷◌, ◌++◌, length, refl, Some, IsSome, true, false, arith}
 use Rattle.std.specs.Prelude.{flat_map, unwrap_or}
 use Rattle.std.specs.List.{AllByRecursion}
@@ -31,7 +31,7 @@ root_out : (q : Path) → q ≡ [] → is_below [] q ≡ false
 root_out [] p = refl
 root_out (n ∷ q) p = absurd (cc)
 
--- where there are no nodes, there are no lines
+-- if there are no nodes, there are no lines
 no_lines : (s : Stacked) (entries : List Entry) → length (nodes entries) ≡ 0 → [] ≡ lines (record s { entries = entries })
 no_lines s [] z = refl
 no_lines s (e ∷ es) z =
@@ -39,7 +39,7 @@ no_lines s (e ∷ es) z =
     let b = (numbers_all (e ∷ es) (number (e ∷ es) (place e))).0 some in
     absurd (let l = b.0 in let m = b.1 in omega arith)
 
--- where there are no nodes, there are no lines
+-- if there are no nodes, there are no lines
 pub none : (stack : Stacked) (n : ℕ) → n ≡ length (nodes stack.entries) → n ≡ 0 → [] ≡ lines stack
 none stack n e z = no_lines stack stack.entries (sym e ∙ z)
 
@@ -77,8 +77,7 @@ begins model (e ∷ es) t s l z =
         no_other d n q f (inr a) p = let g : path_cmp (n ∷ q) [] ≡ Less =
             subst (λ r. path_cmp (n ∷ q) r ≡ Less) p (subst (λ r. path_cmp r d.path ≡ Less) f (later e es d l.rising.0 a)) in cc
 
--- where there are nodes and the images are sound, the walk may begin at the root and prints all
--- lines
+-- if there are nodes and the images are sound, the walk may begin at the root and prints all lines
 pub begun : (stack : Stacked) (n : ℕ) → AreImages stack.layers → IsListing stack.layers stack.entries → n ≡ length (nodes stack.entries)
     → (n ≡ 0 → ⊥) → IsBegun stack
 begun stack n i l e z = begins stack stack.entries (are_tree stack.layers stack.entries i l)

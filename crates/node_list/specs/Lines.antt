@@ -6,7 +6,7 @@ use Rattle.stack_model.specs.Listing.{Entry, Stacked}
 use Rattle.stack_model.specs.Numbers.{Place, place, number}
 use Rattle.stack_model.specs.Attributes.{mode_at, size_at, nlink}
 
--- a lower hexadecimal digit: 48 is `0`, and 87 + 10 is `a`
+-- a lower-case hexadecimal digit: 48 is `0`, and 87 + 10 is `a`
 abbrev pub hex_digit : ℕ → ℕ
 hex_digit n = if nat_lt n 10 then 48 + n else 87 + n
 
@@ -14,7 +14,7 @@ hex_digit n = if nat_lt n 10 then 48 + n else 87 + n
 abbrev pub is_unescaped : ℕ → Bool
 is_unescaped byte = nat_le 0x21 byte && nat_le byte 0x7e && not (byte == 92)
 
--- a byte of a name as it is printed: itself, or else `\` and two hexadecimal digits
+-- a byte of a name as it is printed: itself, or `\` and two hexadecimal digits
 abbrev pub escaped : ℕ → List ℕ
 escaped byte =
     if is_unescaped byte then byte ∷ [] else 92 ∷ hex_digit (byte / 16) ∷ hex_digit (byte % 16) ∷ []
@@ -27,7 +27,7 @@ name_text name = flat_map escaped name
 abbrev pub names_text : Path → List ℕ
 names_text path = flat_map (λ name. 47 ∷ name_text name) path
 
--- what is printed of a path, by the text of its names; the root, which has none, is `/`
+-- the printed form of a path, from the text of its names; the root, which has none, is `/`
 abbrev pub printed : List ℕ → List ℕ
 printed [] = 47 ∷ []
 printed (byte ∷ text) = byte ∷ text
@@ -46,11 +46,11 @@ mode_text n =
     octal_digit (n / 8 ^ 5) ∷ octal_digit (n / 8 ^ 4) ∷ octal_digit (n / 8 ^ 3) ∷ octal_digit
     (n / 8 ^ 2) ∷ octal_digit (n / 8) ∷ octal_digit n ∷ []
 
--- a text with a space behind it
+-- a text followed by a space
 abbrev pub spaced : List ℕ → List ℕ
 spaced text = text ++ 32 ∷ []
 
--- number, mode, nlink, size and layer, each with a space behind it
+-- number, mode, nlink, size and layer, each followed by a space
 abbrev pub fields_text : ℕ → ℕ → ℕ → ℕ → ℕ → List ℕ
 fields_text number mode nlink size layer =
     spaced (decimal number) ++ spaced (mode_text mode) ++ spaced (decimal nlink)

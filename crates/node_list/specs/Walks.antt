@@ -1,4 +1,4 @@
--- What a walk over a table prints, and what it relies on.
+-- What a walk over a table prints, and what it requires.
 use Rattle.std.specs.Prelude.{◌≡◌, ℕ, List, [], ◌∷◌, ◌++◌, flat_map, Result, OnOk, OnErr}
 use Rattle.std.specs.Option.{option_map_or}
 use Rattle.std.specs.Io.KnownBytes.{Appends}
@@ -17,22 +17,22 @@ pub record Passage : Type 0 where
   pub sink : SinkState
   pub waiting : List ℕ
 
--- the same, made of both
+-- the same, from both
 abbrev pub passage : SinkState → List ℕ → Passage
 passage sink waiting = record { sink = sink; waiting = waiting }
 
--- these bytes are on their way behind those that were: the first of all of them went to the sink
+-- these bytes follow those on their way, and the sink gained a prefix of both
 pub record Gains (old new : Passage) (bytes : List ℕ) : Type 0 where
   pub put : List ℕ
   pub gained : Appends old.sink.held new.sink.held put
   pub left : old.waiting ++ bytes ≡ put ++ new.waiting
 
--- the sink gained the first of what was on its way and of these bytes at most
+-- the sink gained at most a prefix of what was on its way and of these bytes
 pub record Loses (old new : Passage) (bytes : List ℕ) : Type 0 where
   pub gained : GainsFront (old.waiting ++ bytes) old.sink.held new.sink.held
 
 -- a call put these bytes after those on their way, or the sink failed once more and gained at most
--- a beginning of them; if it succeeds no more bytes wait for a flush
+-- a prefix of them; if it succeeds no more bytes wait for a flush
 pub record Puts {X E : Type 0} (result : Result X E) (old new : Passage) (bytes : List ℕ)
     : Type 0 where
   pub gained : OnOk result (Gains old new bytes)
@@ -51,7 +51,7 @@ line_at stack n path = line_as stack n (path_text path)
 abbrev pub lines_below : Stacked → Path → List ℕ
 lines_below stack path = flat_map (line stack) (below stack.entries path)
 
--- the line of a child of the directory at a path, and those of all below it
+-- the line of a child of the directory at a path, and those of everything below it
 abbrev pub piece_at : Stacked → Path → Line → List ℕ
 piece_at stack top row =
     line_at stack row.number (top ++ row.name ∷ []) ++ lines_below stack (top ++ row.name ∷ [])
@@ -71,7 +71,7 @@ abbrev pub IsOnWay : Stacked → ℕ → List ℕ → Type 0
 IsOnWay stack n text = (path : Path) × IsVisited stack n text path
 
 -- a call put the lines of all paths below the one that is visited at this number and this text, or
--- the sink failed once more and gained the first of them at most
+-- the sink failed once more and gained at most a prefix of them
 pub record PutsBelow {X E : Type 0} (stack : Stacked) (n : ℕ) (text : List ℕ) (result : Result X E)
     (old new : Passage) : Type 0 where
   pub gained : (path : Path) → IsVisited stack n text path

@@ -5,8 +5,8 @@ ghost use Rattle.stack_model.specs.Listing.{stacked};
 ghost use Rattle.node_list.specs.Examples.{sticky_root};
 ghost use Rattle.node_list.specs.Lines.{escaped, name_text, path_text, mode_text, lines};
 
-/// Bytes of a name: a space, a backslash, those just inside and just outside of 0x21 to 0x7e, and
-/// the greatest.
+/// Bytes of a name: a space, a backslash, those just inside and just outside 0x21 to 0x7e, and the
+/// greatest.
 pub fn escapes()
     ensures space { escaped 0x20 ≡ codes "\\20" }
     ensures backslash { escaped 0x5c ≡ codes "\\5c" }
@@ -34,8 +34,8 @@ pub fn paths()
     ensures names { path_text (codes "a" ∷ codes "b c" ∷ []) ≡ codes "/a/b\\20c" }
 {}
 
-/// The list of a layer of four bytes, which are the first word of a header: a directory with the
-/// executable bit.
+/// The list of a layer of four bytes, the first word of a header: a directory with the executable
+/// bit.
 pub fn root_alone()
     ensures { lines (stacked ((0 ∷ 0 ∷ 0 ∷ 9 ∷ []) ∷ [])
         (record { path = []; layer = 0; header = 0 } ∷ [])) ≡ codes "1 040755 2 0 0 /\n" }

@@ -1,5 +1,5 @@
-//! The fields of a line, before its path. They are written from the last to the first, as the
-//! digits of a number come from its end, and form one run of bytes.
+//! The fields of a line, before its path. They are written from last to first, as the digits of a
+//! number are computed from its end, and form one run of bytes.
 
 ghost use Rattle.std.specs.Prelude.{◌≡◌, ◌<◌, ◌≤◌, ◌+◌, ◌++◌, ◌∷◌, length, drop};
 ghost use Rattle.std.specs.Fmt.{decimal};
@@ -8,8 +8,8 @@ ghost use Rattle.node_list.specs.Lines.{octal_digit, mode_text, spaced, fields_t
 use itoa::write_digits;
 use stack_model::Attr;
 
-/// How many bytes the fields take at most, each with a space behind it: four numbers of 20 digits,
-/// and a mode.
+/// The most bytes that the fields take, each followed by a space: four numbers of 20 digits, and a
+/// mode.
 pub(crate) const FIELDS_SIZE: usize = 4 * 21 + 7;
 
 /// Writes the fields of a node in a layer to the end of some bytes, and returns their start.
@@ -38,7 +38,7 @@ fn write_byte(byte: u8, bytes: &mut [u8], end: usize) -> usize
     at
 }
 
-// The same of a number, with a space behind it.
+// The same for a number, followed by a space.
 fn write_number(number: u64, bytes: &mut [u8], end: usize) -> usize
     requires some { 21 ≤ end }
     requires within { end ≤ length bytes.old }
@@ -56,7 +56,7 @@ fn octal_digit(n: u32) -> u8
     48 + (n % 8) as u8
 }
 
-// The same of a mode in six octal digits, with a space behind it.
+// The same for a mode in six octal digits, followed by a space.
 fn write_mode(mode: u32, bytes: &mut [u8], end: usize) -> usize
     requires some { 7 ≤ end }
     requires within { end ≤ length bytes.old }

@@ -8,12 +8,12 @@ use romfs_format::limits::{MAX_NAMES, NAME_FIELD_SIZE};
 use std::alloc::{AllocError, Allocator};
 use std::marker::Model;
 
-/// How many bytes the names of a path take at most, printed: each follows a slash, and each of its
+/// The most bytes that the printed names of a path take: each follows a slash, and each of its
 /// bytes may be escaped.
 pub(crate) const LONGEST: usize = MAX_NAMES as usize * (1 + 3 * (NAME_FIELD_SIZE - 1));
 
 /// The printed names of a listing's current path, each after a slash. It has room for the longest
-/// path, so it takes no memory once it is made.
+/// path, so it takes no memory after it is made.
 #[derive(Drop)]
 pub(crate) struct PathText<A: Allocator> {
     text: Vec<u8, A>,
@@ -58,7 +58,7 @@ impl<A: Allocator> PathText<A> {
         }
     }
 
-    /// Goes down to a name: up to its first byte that is escaped it is copied.
+    /// Descends to a name. The bytes before the first that is escaped are copied.
     pub(crate) fn go_down(&mut self, name: &[u8])
         requires { length self.old + length (name_text name.now) < LONGEST }
         ensures { self.new ≡ self.old ++ 47 ∷ name_text name.now }
@@ -71,7 +71,7 @@ impl<A: Allocator> PathText<A> {
         }
     }
 
-    /// Goes back up to where the names took this many bytes.
+    /// Ascends to where the names took this many bytes.
     pub(crate) fn go_up(&mut self, len: usize)
         ensures { self.new ≡ take len self.old }
     {

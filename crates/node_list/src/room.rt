@@ -1,4 +1,4 @@
-//! Bytes on their way to a sink.
+//! Bytes that wait for a sink.
 
 ghost use Rattle.std.specs.Prelude.{◌≡◌, ◌≤◌, ◌<◌, ◌+◌, ◌^◌, [], ◌∷◌, ◌++◌, length, IfOk, OnOk, vec_len, vec_capacity};
 ghost use Rattle.node_list.specs.Walks.{passage, Puts};
@@ -22,7 +22,7 @@ impl<A: Allocator> Room<A> {
         })
     }
 
-    /// Hands on all bytes that wait.
+    /// Writes all waiting bytes to the sink.
     pub(crate) fn drain<K: Sink>(&mut self, sink: &mut K) -> Result<(), Failed>
         requires { (K.state sink.old).counts.failures < 2 ^ 63 }
         ensures put { Puts result (passage (K.state sink.old) self.old.waiting.items)
@@ -35,8 +35,8 @@ impl<A: Allocator> Room<A> {
         Ok(())
     }
 
-    /// Puts bytes after those that wait, and hands these on first if there is no room. It takes no
-    /// memory.
+    /// Adds bytes to the waiting ones, and first writes these to the sink if there is no room. It
+    /// takes no memory.
     pub(crate) fn put<K: Sink>(&mut self, sink: &mut K, bytes: &[u8]) -> Result<(), Failed>
         requires { (K.state sink.old).counts.failures < 2 ^ 63 }
         ensures { Puts result (passage (K.state sink.old) self.old.waiting.items)
@@ -54,7 +54,7 @@ impl<A: Allocator> Room<A> {
         hand_on(sink, bytes)
     }
 
-    /// Puts a byte.
+    /// Adds a byte.
     pub(crate) fn put_byte<K: Sink>(&mut self, sink: &mut K, byte: u8) -> Result<(), Failed>
         requires { (K.state sink.old).counts.failures < 2 ^ 63 }
         ensures { Puts result (passage (K.state sink.old) self.old.waiting.items)
@@ -67,7 +67,7 @@ impl<A: Allocator> Room<A> {
         self.put(sink, &[byte])
     }
 
-    // Appends bytes for which there is room, so no growth can fail.
+    // Appends bytes; there is room for them, so no growth can fail.
     fn append(&mut self, bytes: &[u8])
         requires { vec_len self.old.waiting + length bytes.now ≤ vec_capacity self.old.waiting }
         ensures { self.new.waiting.items ≡ self.old.waiting.items ++ bytes.now }
@@ -77,7 +77,7 @@ impl<A: Allocator> Room<A> {
         };
     }
 
-    // The same of one byte.
+    // The same for one byte.
     fn append_byte(&mut self, byte: u8)
         requires { vec_len self.old.waiting < vec_capacity self.old.waiting }
         ensures { self.new.waiting.items ≡ self.old.waiting.items ++ byte ∷ [] }

@@ -16,12 +16,12 @@ use std::alloc::{AllocError, Allocator};
 // How many bytes of lines wait before they are written.
 const PIECE: usize = 65_536;
 
-/// Why a list was not written to its end.
+/// Why a list was not written in full.
 #[derive(Clone, Copy, Debug, PartialEq, Eq)]
 pub enum ListFault {
     /// The sink failed.
     Write,
-    /// Memory ran out, and nothing was put.
+    /// Memory ran out, and nothing was written.
     Memory,
 }
 
@@ -45,18 +45,18 @@ impl From<Failed> for ListFault {
     }
 }
 
-/// Puts a line for each shown path of the table's layers to a sink, in the order of the paths.
+/// Writes a line for each shown path of the table's layers to a sink, in the order of the paths.
 ///
 /// A line is `<number> <mode> <nlink> <size> <layer> <path>`: the mode in six octal digits, from
-/// the node's row if it has one, the layer of the node's place, and the path after `/`, which alone
-/// is the root. A byte of a name outside 0x21 to 0x7e, and that of `\`, is printed as `\` and two
-/// lower hexadecimal digits.
+/// the node's row if it has one, the layer of the node's place, and the path after `/`; `/` alone
+/// is the root. A byte of a name outside 0x21 to 0x7e, or that of `\`, is printed as `\` and two
+/// lower-case hexadecimal digits.
 ///
-/// The lines go out in pieces of about 64 KiB, each of which is flushed. Memory is taken first, 64
-/// KiB for a piece and 383 KiB for the longest possible path: at `Memory` the sink is unchanged.
-/// `Write` only if the sink failed in this call, once; it has then gained at most a beginning of
-/// the lines. The depth of the stack grows with the names of the deepest path, the time with the
-/// length of the lines.
+/// The lines are written in pieces of about 64 KiB, each of which is flushed. Memory is taken
+/// first, 64 KiB for a piece and 383 KiB for the longest possible path: after `Memory` the sink is
+/// unchanged. `Write` only if the sink failed in this call, once; it then has a prefix of the
+/// lines. The depth of the stack grows with the number of names in the deepest path, the time with
+/// the length of the lines.
 pub fn write_list<A: Allocator + Copy, B: Allocator, K: Sink>(
     alloc: A,
     table: &Table<B>,
@@ -74,7 +74,7 @@ pub fn write_list<A: Allocator + Copy, B: Allocator, K: Sink>(
 }
 
 impl<A: Allocator> Room<A> {
-    // Puts the line of a number with a path; none if the number is not in use.
+    // Writes the line of a number with a path; nothing if the number is not in use.
     fn put_line<K: Sink, B: Allocator>(
         &mut self,
         sink: &mut K,
@@ -100,7 +100,7 @@ impl<A: Allocator> Room<A> {
         self.put_byte(sink, b'\n')
     }
 
-    // Puts the lines of all paths below one. No recursion goes deeper than the paths are long.
+    // Writes the lines of all paths below one. No recursion is deeper than the paths are long.
     fn put_below<K: Sink, B: Allocator>(
         &mut self,
         sink: &mut K,
@@ -125,7 +125,7 @@ impl<A: Allocator> Room<A> {
         Ok(())
     }
 
-    // Puts all lines.
+    // Writes all lines.
     fn put_all<K: Sink, B: Allocator>(
         &mut self,
         sink: &mut K,
@@ -147,7 +147,7 @@ impl<A: Allocator> Room<A> {
     }
 }
 
-// Tells that each image keeps all rules, and does nothing else: what a call on an image promises
+// States that each image keeps all rules, and does nothing else: the contract of a call on an image
 // says so of that image.
 fn are_images<A: Allocator>(table: &Table<A>)
     ensures { AreImages table.now.layers }

@@ -1,6 +1,5 @@
--- The number of the row with a name, by the place of the name. `number_at` and `number_nowhere` are
--- the main lemmas: the row at the first place of the name is the row with the name, and where it has
--- none there is none.
+-- The number of the row with a name, by the place of the name. `number_at` and `number_nowhere` are the main lemmas: the row at the first
+-- place of the name is the row with the name, and if the name has no place there is no such row.
 use Rattle.std.proofs.Common.{◌≡◌, ◌∙◌, sym, ap, ℕ, suc, ◌<◌, inl, inr, List, [], ◌∷◌, length, get_or, refl, arith, Bool, false, Some, None}
 use Rattle.std.specs.Prelude.{find, slice_get}
 use Rattle.std.specs.List.{position_or_len}
@@ -41,7 +40,7 @@ none_is : (p : Line → Bool) (ls : List Line) → ((k : ℕ) (d : Line) → k <
 none_is p [] f = refl
 none_is p (l ∷ ls) f = rw (f 0 l (omega arith)) (none_is p ls (λ k d m. f (suc k) d (omega arith)))
 
--- where the name has no place, no row has the name
+-- if the name has no place, no row has the name
 named_nowhere : (n : List ℕ) (ls : List Line) → place_of n (names ls) ≡ None → line_named n ls ≡ None
 named_nowhere n ls e = elim (cases_lt (position_or_len (same_name n) (names ls)) (length (names ls))) [
   | inl l ↦ absurd (let f = rw (lt-ltb _ _ l) at e in cc)
@@ -55,6 +54,6 @@ pub number_at : (n : List ℕ) (ls : List Line) (i : ℕ) (d : Line) → place_o
     → number_named n ls ≡ Some (get_or ls i d).number
 number_at n ls i d e = ap (option_map (λ (l : Line). l.number)) (named_at n ls i d e)
 
--- where the name has no place, it has no number
+-- if the name has no place, it has no number
 pub number_nowhere : (n : List ℕ) (ls : List Line) → place_of n (names ls) ≡ None → number_named n ls ≡ None
 number_nowhere n ls e = ap (option_map (λ (l : Line). l.number)) (named_nowhere n ls e)

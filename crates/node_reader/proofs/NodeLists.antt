@@ -1,6 +1,5 @@
--- The extended attributes of nodes: the list of a place is that of its row (list_is), what is held of
--- a node is what its place has (node_list, any_more, nodes_held, bare_more, nodes_bare), and so is what
--- a table answers (xattrs_are, xattrs_none, some_has, acls_have).
+-- The extended attributes of nodes: the list of a place is that of its row (list_is), what is kept for a node is what its place has
+-- (node_list, any_more, nodes_held, bare_more, nodes_bare), and so is what a table answers (xattrs_are, xattrs_none, some_has, acls_have).
 use Rattle.std.proofs.Common.{◌≡◌, ◌∙◌, sym, ap, subst, ℕ, zero, suc, ◌+◌, ◌<◌, inl, inr, List, [], ◌∷◌, length, map, take, get_or, length-take, Bool, true, false, not, Option, Some, None, MatchOption, cond, refl, arith}
 use Rattle.std.specs.Prelude.{◌==◌, ◌||◌, nat_lt}
 use Rattle.std.specs.List.{list_any, position_or_len, slice_index_or}
@@ -24,7 +23,7 @@ use Rattle.node_reader.specs.Xattrs.{HeldXattrs, list_behind, list_held, row_num
 use Rattle.node_reader.proofs.Nodes.{held_map, here, nowhere}
 use Rattle.node_reader.proofs.Stamps.{paired_is}
 
--- the list behind the position that a search gives
+-- the list after the position that a search gives
 abbrev behind : List (List Extended) → Bool → ℕ → List Extended
 behind ys there i = list_behind ys (option_map_or (λ position. position + 1) (cond there (Some i) None) 0)
 
@@ -32,7 +31,7 @@ behind_none : (there : Bool) (i : ℕ) → behind [] there i ≡ []
 behind_none true i = let f : i + 1 ≡ suc i = omega arith in rw f refl
 behind_none false i = refl
 
--- behind a row that is not the one, positions are one higher
+-- after a row that is not the one, positions are one higher
 behind_more : (ys : List Extended) (yss : List (List Extended)) (k n : ℕ)
     → behind (ys ∷ yss) (nat_lt (1 + k) (suc n)) (1 + k) ≡ behind yss (nat_lt k n) k
 behind_more ys yss k n = elim (cases_lt k n) [
@@ -59,7 +58,7 @@ module _ (p : ℕ) where
   abbrev is_for : AttributeRow → Bool
   is_for row = row.place == p
 
-  -- the list of a place is that behind the position of its row
+  -- the list of a place is that after the position of its row
   pub list_is : (xs : List AttributeRow) (yss : List (List Extended))
       → list_at xs yss p ≡ list_behind yss (option_map_or (λ position. position + 1) (position_at xs p) 0)
   list_is [] yss = refl
@@ -73,7 +72,7 @@ module _ (rows : List (List AttributeRow)) (lists : List (List (List Extended)))
   node_list node =
       sym (list_is node.place.header (slice_index_or rows node.place.layer []) (slice_index_or lists node.place.layer []))
 
-  -- one node more has a list of some kind, or one before it had
+  -- one more node has a list of some kind, or one before it did
   pub any_more : (f : List Extended → Bool) (held : List Node) (i : ℕ) (d : Node) (n : ℕ) (before after : Bool)
       → i < length held → n ≡ row_number rows (get_or held i d)
       → before ≡ list_any (λ x. f (list_of_node rows lists x)) (take i held)
@@ -101,7 +100,7 @@ module _ (rows : List (List AttributeRow)) (lists : List (List (List Extended)))
           ap (λ ps. held_at ps n) found ∙ held_map (row_number rows) held n ∙ ap (option_map (row_number rows)) e in
           rw (number, is) (node_list node)
 
-  -- where no row has a list, no node has one
+  -- if no row has a list, no node has one
   pub bare_list : AreBare lists → (node : Node) → list_of_node rows lists node ≡ []
   bare_list bare node = sym (node_list node) ∙ go (row_number rows node)
     where
@@ -128,7 +127,7 @@ module _ (rows : List (List AttributeRow)) (lists : List (List (List Extended)))
       none zero = refl
       none (suc n) = refl
 
--- the list behind the position that is held of a number, or none
+-- the list at the position that is kept for a number, or none
 abbrev told_by : List (List (List Extended)) → List ℕ → ℕ → Node → List Extended
 told_by lists positions n node = option_map_or (list_held lists node.place.layer) (held_at positions n) []
 
@@ -198,13 +197,13 @@ module _ (stack : Stacked) (held : List Node) (directories : HeldDirectories) (b
   pub acls_have : x.acls ≡ has_acls stack
   acls_have = are.acls_are ∙ any_are has_acl
 
-  -- what is held of a node is what its number has
+  -- what is kept for a node is what its number has
   pub xattrs_are : (n : ℕ) (node : Node) → held_at held n ≡ Some node → xattrs_held x n node ≡ xattrs_at stack n
   xattrs_are n node e =
       let h = here stack held directories blocks t n node e in
       are.each n node e ∙ of_place node ∙ ap (xattrs_of stack) h.holds.place
       ∙ sym (ap (λ o. option_map_or (xattrs_of stack) o []) h.is)
 
-  -- what is not held has none
+  -- a number without a node has none
   pub xattrs_none : (n : ℕ) → held_at held n ≡ None → xattrs_at stack n ≡ []
   xattrs_none n e = ap (λ o. option_map_or (xattrs_of stack) o []) (nowhere stack held directories blocks t n e)

@@ -1,6 +1,5 @@
--- What a table's parts say of the node with a number. A number is held exactly where it is in use
--- (`here`, `nowhere`), and a directory where the place is one (`found`, `not_found`); the others
--- say of each reader that what it reads is what the stack says.
+-- What a table's parts say about the node with a number. There is an item for a number exactly if it is in use (`here`, `nowhere`), and a
+-- directory if the place is one (`found`, `not_found`); the others say for each reader that what it reads is what the stack says.
 use Rattle.std.proofs.Common.{◌≡◌, ◌∙◌, sym, ap, subst, ℕ, zero, suc, ◌<◌, ◌≤◌, inl, inr, List, [], ◌∷◌, length, map, Bool, true, false, Option, Some, None, Bor, MatchOption, cond, refl, arith}
 use Rattle.std.specs.Prelude.{slice_get, slice_range, find, unwrap_or}
 use Rattle.std.specs.List.{slice_index_or}
@@ -46,7 +45,7 @@ named_child : (f : Place → ℕ) (name : List ℕ) (cs : List Child) → IsName
 named_child f name [] = refl
 named_child f name (c ∷ cs) = step f name c cs (same_name name c.name) refl (named_child f name cs)
 
--- what a map holds of a number is made of what is held of it
+-- what a map has at a number is made from the item there
 pub held_map : {A B : Type 0} (f : A → B) (all : List A) (n : ℕ) → held_at (map f all) n ≡ option_map f (held_at all n)
 held_map f all zero = refl
 held_map f [] (suc k) = refl
@@ -86,13 +85,13 @@ module _ (stack : Stacked) (held : List Node) (directories : HeldDirectories) (b
   abbrev owner : Owner
   owner = stack.owner
 
-  -- a number that is held is in use, and the node says what it should
+  -- a number with a node is in use, and the node says what it should
   pub record IsHere (n : ℕ) (node : Node) : Type 0 where
     pub at : Place
     pub is : node_of entries n ≡ Some at
     pub holds : IsNode (stacked layers entries) directories node at
 
-  -- where a node is held of a number, it is the node of the number's place
+  -- if there is a node at a number, it is the node of the number's place
   pub here : (n : ℕ) (node : Node) → held_at held n ≡ Some node → IsHere n node
   here zero node e = absurd (cc)
   here (suc k) node e =
@@ -101,7 +100,7 @@ module _ (stack : Stacked) (held : List Node) (directories : HeldDirectories) (b
       let p = slice_get-get_or (nodes entries) k (0, 0) (omega arith) in
       record { at = _; is = p; holds = t.are.each k node _ e p }
 
-  -- a number that is not held is not in use
+  -- a number without a node is not in use
   pub nowhere : (n : ℕ) → held_at held n ≡ None → node_of entries n ≡ None
   nowhere zero e = refl
   nowhere (suc k) e = elim (slice_get_cases held k).1 [
@@ -109,7 +108,7 @@ module _ (stack : Stacked) (held : List Node) (directories : HeldDirectories) (b
     | inr x ↦ (let level = t.are.level in let past = x.0 in slice_get_past (nodes entries) k (omega arith))
   ]
 
-  -- what a look-up of a number gives tells the node of the stack, or that there is none
+  -- the result of looking up a number is the node of the stack, or there is none
   pub node_is : (n : ℕ) (o : Option (Bor Node)) → MatchOption o (held_at held n ≡ None) (λ node. held_at held n ≡ Some node.now)
       → TellsNode stack n o
   node_is n None e = nowhere n e
@@ -131,7 +130,7 @@ module _ (stack : Stacked) (held : List Node) (directories : HeldDirectories) (b
       let h = here n node e in
       rw h.is (ap Some (attr_same n node h.at h.holds (number_is entries n h.at h.is)))
 
-  -- the attributes made of what is held in brief, and of the stamp that is held, are those of its number
+  -- the attributes made from the brief ones and from the stamp are those of the number
   pub attr_is : (n : ℕ) (brief : Brief) (stamps : List Stamp) → AreStampsOf rows owner held stamps
       → held_at (briefs_of rows held) n ≡ Some brief → Some (attr_held n brief (stamp_held stamps owner n)) ≡ attr_at stack n
   attr_is n brief stamps s e = go (held_at held n) refl
@@ -146,7 +145,7 @@ module _ (stack : Stacked) (held : List Node) (directories : HeldDirectories) (b
           let is : brief ≡ of_node node = cc in
           rw (is, s.each n node f) (attr_here n node f)
 
-  -- what is not held in brief has no attributes
+  -- a number without brief attributes has no attributes
   pub attr_none : (n : ℕ) → held_at (briefs_of rows held) n ≡ None → None ≡ attr_at stack n
   attr_none n e = go (held_at held n) refl
     where
@@ -157,7 +156,7 @@ module _ (stack : Stacked) (held : List Node) (directories : HeldDirectories) (b
       go None f = rw (nowhere n f) refl
       go (Some node) f = absurd (let z = sym e ∙ held_map of_node held n ∙ ap (option_map of_node) f in cc)
 
-  -- a directory that is held is of a number in use, whose place is a directory
+  -- a directory that is kept belongs to a number in use, whose place is a directory
   pub record IsFound (n : ℕ) (directory : Directory) : Type 0 where
     pub at : Place
     pub is : node_of entries n ≡ Some at
@@ -178,7 +177,7 @@ module _ (stack : Stacked) (held : List Node) (directories : HeldDirectories) (b
         holds = subst (λ (x : Directory). IsHeldDirectory (stacked layers entries) directories x h.at) is d.holds;
       }
 
-  -- a directory that is held is of a number in use, whose place is a directory
+  -- a directory that is kept belongs to a number in use, whose place is a directory
   pub found : (n : ℕ) (directory : Directory) → directory_held held directories n ≡ Some directory → IsFound n directory
   found n directory e = go (held_at held n) refl e
     where
@@ -186,13 +185,13 @@ module _ (stack : Stacked) (held : List Node) (directories : HeldDirectories) (b
       go None f k = absurd (cc)
       go (Some node) f k = found_at n node directory (here n node f) (is_directory node.kind) refl k
 
-  -- a number of which no directory is held is not in use, or its place is none
+  -- a number without a directory is not in use, or its place is none
   not_held : (n : ℕ) (node : Node) (h : IsHere n node) (b : Bool) → is_directory node.kind ≡ b
       → cond b (slice_get directories.all node.directory) None ≡ None → option_map_or (is_directory_at layers) (Some h.at) false ≡ false
   not_held n node h true e k = absurd (let d = h.holds.directory_is e in let z : Some d.directory ≡ None = sym d.is ∙ k in cc)
   not_held n node h false e k = ap is_directory (sym h.holds.kind) ∙ e
 
-  -- a number of which no directory is held is not in use, or its place is no directory
+  -- a number without a directory is not in use, or its place is not a directory
   pub not_found : (n : ℕ) → directory_held held directories n ≡ None → option_map_or (is_directory_at layers) (node_of entries n) false
       ≡ false
   not_found n e = go (held_at held n) refl e
@@ -208,11 +207,11 @@ module _ (stack : Stacked) (held : List Node) (directories : HeldDirectories) (b
       ≡ rows_at stack n
   rows_are n d e = let h = found n d e in rw h.is h.holds.rows_are
 
-  -- the keys of its rows are there
+  -- the keys of its rows are kept
   pub keys_end : (n : ℕ) (d : Directory) → directory_held held directories n ≡ Some d → d.rows_end ≤ length directories.keys
   keys_end n d e = let level = t.are.keys_level in let end = (found n d e).holds.end in omega arith
 
-  -- of each directory
+  -- for each directory
   pub have_keys : HaveKeys held directories
   have_keys = record { each = λ n d e. ((found n d e).holds.start, keys_end n d e) }
 
@@ -229,11 +228,11 @@ module _ (stack : Stacked) (held : List Node) (directories : HeldDirectories) (b
       → number_named name (slice_range directories.rows d.rows_start d.rows_end) ≡ child_at stack n name
   child_is n d name e = let h = found n d e in rw (h.is, h.holds.rows_are) (named_of h.at name)
 
-  -- the parent that is held of a directory is its number's
+  -- the parent that is kept for a directory is that of its number
   pub parent_is : (n : ℕ) (d : Directory) → directory_held held directories n ≡ Some d → Some d.parent ≡ parent_at stack n
   parent_is n d e = let h = found n d e in rw (h.is, h.kind) (ap Some h.holds.parent_is)
 
-  -- what is no directory has no rows
+  -- what is not a directory has no rows
   pub rows_none : (n : ℕ) → directory_held held directories n ≡ None → [] ≡ rows_at stack n
   rows_none n e = go (node_of entries n) (not_found n e)
     where
@@ -267,11 +266,11 @@ module _ (stack : Stacked) (held : List Node) (directories : HeldDirectories) (b
       let same : image ≡ a.image = i ∙ get_or_from_slice_get layers node.place.layer a.image image a.is in
       rw (h.is, same) a.data_is
 
-  -- what is not held has no data
+  -- a number without a node has no data
   pub data_none : (n : ℕ) → held_at held n ≡ None → [] ≡ data_of_number stack n
   data_none n e = rw (nowhere n e) refl
 
-  -- the layer of a node that is held is one of the layers
+  -- the layer of a node is one of the layers
   pub image_there : (n : ℕ) (node : Node) → held_at held n ≡ Some node → node.place.layer < length layers
   image_there n node e = let a = (here n node e).holds.holds in slice_get_within layers node.place.layer a.image a.is
 

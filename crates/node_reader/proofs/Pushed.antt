@@ -1,4 +1,4 @@
--- What loops push one by one: one more stands behind what was there.
+-- Lists that loops grow one by one: one more element follows the earlier ones.
 use Rattle.std.proofs.Common.{◌≡◌, ◌∙◌, sym, ap, ℕ, ◌+◌, ◌<◌, List, [], ◌∷◌, ◌++◌, length, map, take, get_or}
 use Rattle.std.proofs.lemmas.List.{map_more}
 

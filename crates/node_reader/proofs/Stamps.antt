@@ -1,4 +1,4 @@
--- Paired lists, rows whose stamps are elsewhere, and what both give.
+-- Paired lists, rows whose stamps are stored elsewhere, and what both give.
 use Rattle.std.proofs.Common.{◌≡◌, ◌≢◌, ◌∙◌, sym, ap, subst, ℕ, zero, suc, ◌+◌, ◌<◌, ◌≤◌, ◌⊎◌, inl, inr, List, [], ◌∷◌, ◌++◌, length, map, set, true, false, not, Bool, ◌==◌, Option, Some, None, refl, arith}
 use Rattle.std.specs.Prelude.{slice_get, nat_eq, is_some, Result, IfOk}
 use Rattle.std.specs.List.{slice_index_or}
@@ -51,7 +51,7 @@ module _ {A B : Type 0} where
   paired_is f (x ∷ xs) (y ∷ ys) p =
       rw (p.each 0 x y refl refl, paired_is f xs ys (paired_rest (λ a b. f b ≡ a) x xs y ys p)) refl
 
--- what stands in a list of which one element was put
+-- the elements of a list in which one was replaced
 put : {A : Type 0} (xs : List A) (i : ℕ) (y : A) (k : ℕ) (x : A) → slice_get (set xs i y) k ≡ Some x
     → ((k ≡ i) × (x ≡ y)) ⊎ ((k ≢ i) × (slice_get xs k ≡ Some x))
 put [] i y k x e = absurd (cc)
@@ -73,7 +73,7 @@ paired_set R xs ys i y p r = record {
   ];
 }
 
--- one more of a list is so
+-- it holds for one more of a list
 pub first_set : {A : Type 0} (P : A → Type 0) (xs : List A) (n : ℕ) (y : A) → AreFirst P xs n → P y → AreFirst P (set xs n y) (n + 1)
 first_set P xs n y f h = record {
   each = λ k x l e. elim (put xs n y k x e) [
@@ -82,7 +82,7 @@ first_set P xs n y f h = record {
   ];
 }
 
--- and where it is so already
+-- and if it is so already
 pub first_more : {A : Type 0} (P : A → Type 0) (xs : List A) (n : ℕ) (y : A) → AreFirst P xs n → slice_get xs n ≡ Some y → P y
     → AreFirst P xs (n + 1)
 first_more P xs n y f i h = record {
@@ -102,14 +102,14 @@ get_last : {A : Type 0} (xs : List A) (x : A) → slice_get (xs ++ x ∷ []) (le
 get_last [] x = refl
 get_last (a ∷ xs) x = get_last xs x
 
--- a stamp that was put behind others has the last number
+-- a stamp that was added after others has the last number
 pub held_last : (xs ys : List Stamp) (x : Stamp) (n : ℕ) → ys ≡ xs ++ x ∷ [] → n ≡ length ys → held_at ys n ≡ Some x
 held_last xs ys x n e l =
     let q : length xs + 1 ≡ suc (length xs) = omega arith in
     let m : n ≡ suc (length xs) = l ∙ ap length e ∙ length-append xs (x ∷ []) ∙ q in
     rw (m, e) (get_last xs x)
 
--- what was held is held still
+-- what had a number still has it
 pub keeps_same : (xs : List Stamp) → Keeps xs xs
 keeps_same xs = record { each = λ n s e. e }
 
@@ -146,7 +146,7 @@ pub all_bare : (stamps : List Stamp) (rows : List (List AttributeRow)) → AreAl
 all_bare stamps rows =
     paired_map (AreSlim stamps) (map slim_of) rows (λ xs. paired_map (IsSlim stamps) slim_of xs (bare stamps))
 
--- what holds where a stamp was set holds where setting it came well
+-- what holds once a stamp is set holds if setting it succeeded
 pub once_set : {T E : Type 0} (r : Result T E) (n at : ℕ) (old new : List Slim) (Q : Type 0) → (IsStampSet n at old new → Q)
     → IfOk r (λ _. IsStampSet n at old new) → IfOk r (λ _. Q)
 once_set r n at old new Q f = IfOk-weaker r (λ _. IsStampSet n at old new) (λ _. Q) (λ _ s. f s)
@@ -188,7 +188,7 @@ all_rows_are stamps rows layers p f = paired_is (map (row_told stamps)) rows lay
 abbrev pub has_row : List AttributeRow → Bool
 has_row of_layer = not (nat_eq (length of_layer) 0)
 
--- where the first layer has a row, some has
+-- if the first layer has a row, some has
 some_row : (x : AttributeRow) (xs : List AttributeRow) (rows : List (List AttributeRow)) → have_rows ((x ∷ xs) ∷ rows) ≡ false → ⊥
 some_row x xs rows e =
     let empty : nat_eq (suc (length xs)) 0 ≡ false = ne_eqb (suc (length xs)) 0 (λ q. absurd (omega arith)) in
@@ -212,14 +212,14 @@ pub mapped_more : {A B : Type 0} (f : A → B) (xs : List A) (k : ℕ) (x : A) �
     → map f (take (k + 1) xs) ≡ map f (take k xs) ++ f x ∷ []
 mapped_more f xs k x e = let n : k + 1 ≡ suc k = omega arith in rw n (mapped_next f xs k x e)
 
--- within a list something stands
+-- within a list there is an element
 pub stands : {A : Type 0} (xs : List A) (k : ℕ) → k < length xs → slice_get xs k ≡ None → ⊥
 stands xs k l e = elim (slice_get_cases xs k).1 [
   | inl x ↦ (let z : Some x.0 ≡ None = sym x.2 ∙ e in cc)
   | inr x ↦ (let past = x.0 in omega arith)
 ]
 
--- what is read tells whether the place is within the list
+-- what is read says whether the place is within the list
 pub something_stands : {A : Type 0} (xs : List A) (k : ℕ) (o : Option A) → o ≡ slice_get xs k → is_some o ≡ true → k + 1 ≤ length xs
 something_stands xs k None e s = absurd (cc)
 something_stands xs k (Some x) e s = let l = slice_get_within xs k x (sym e) in omega arith
@@ -271,7 +271,7 @@ placed_row rows place at row e f =
     f ∙ ap (option_and_then (slice_get (slice_index_or rows place.layer []))) e
     ∙ sym (row_at_position (slice_index_or rows place.layer []) place.header)
 
--- the stamp that is put behind others is that of the place
+-- the stamp that is added after others is that of the place
 pub pushed : (rows : List (List AttributeRow)) (place : Place) (owner : Owner) (at : Option ℕ) (row : Option AttributeRow)
     (old new : List Stamp) (x y : Stamp) → at ≡ position_held rows place
     → row ≡ option_and_then (slice_get (slice_index_or rows place.layer [])) at → x ≡ stamp_by row owner → y ≡ x → new ≡ old ++ y ∷ []
@@ -280,7 +280,7 @@ pushed rows place owner at row old new x y e f g h i =
     i ∙ ap (λ z. old ++ z ∷ []) (h ∙ g ∙ ap (λ r. stamp_by r owner) (placed_row rows place at row e f))
 
 module _ (rows : List (List AttributeRow)) (layers : List (List Slim)) (place : Place) (i : ℕ) (d : List Slim) where
-  -- the rows of its layer are there, and this many
+  -- the rows of its layer are kept, and this many
   layer_there : (stamps : List Stamp) → AreAllSlim stamps rows layers → (f : IsFound rows place i)
       → AreSlim stamps f.of_layer (slice_index_or layers place.layer d)
   layer_there stamps a f =
@@ -336,7 +336,7 @@ layer_stamped rows first old new layers n of_layer slims a e s = record {
   keeps = keeps_on first old new a.keeps s.keeps;
 }
 
--- the stamps of nodes are held, where others were put behind them
+-- the stamps of nodes are kept, if others were added after them
 pub nodes_stamped : (rows : List (List AttributeRow)) (owner : Owner) (held : List Node) (old new : List Stamp)
     → old ≡ map (λ (node : Node). stamp_by (row_held rows node) owner) held → Keeps old new → have_rows rows ≡ true
     → AreStampsOf rows owner held new
@@ -348,7 +348,7 @@ nodes_stamped rows owner held old new e k h = record {
   none = λ i. absurd (let z : true ≡ false = sym h ∙ i in cc);
 }
 
--- where no layer has a row, no place has one
+-- if no layer has a row, no place has one
 no_row : (rows : List (List AttributeRow)) (layer header : ℕ) → have_rows rows ≡ false → row_at (slice_index_or rows layer []) header ≡ None
 no_row [] layer header e = refl
 no_row ([] ∷ rows) zero header e = refl

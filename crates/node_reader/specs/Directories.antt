@@ -1,4 +1,4 @@
--- What is held of directories.
+-- What is kept about directories.
 use Rattle.std.specs.Prelude.{ℕ, List}
 use Rattle.node_reader.specs.declared.directory.Directory.{Directory}
 use Rattle.node_reader.specs.Rows.{Line}

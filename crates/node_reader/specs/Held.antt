@@ -1,4 +1,4 @@
--- What a table holds, and how it agrees with the listing of its layers.
+-- What a table keeps, and how it agrees with the listing of its layers.
 use Rattle.std.specs.Prelude.{◌≡◌, ℕ, ◌≤◌, List, [], length, map, slice_get, slice_range, nat_eq, All, Bool, Option, Some, None, unwrap_or, true, false, not, if◌then◌else◌}
 use Rattle.std.specs.List.{list_any, slice_index_or}
 use Rattle.std.specs.Option.{option_map_or, option_and_then}
@@ -22,12 +22,12 @@ use Rattle.node_reader.specs.Directories.{HeldDirectories}
 use Rattle.node_reader.specs.Readers.{placed, rows_of, HoldsData}
 use Rattle.node_reader.specs.Xattrs.{HeldXattrs, AreXattrsOf}
 
--- what is held of a node that is a directory
+-- what is kept about a node that is a directory
 abbrev pub kept_of : HeldDirectories → Node → Option Directory
 kept_of directories node =
     if is_directory node.kind then slice_get directories.all node.directory else None
 
--- the directory of a number
+-- the directory with a number
 abbrev pub directory_held : List Node → HeldDirectories → ℕ → Option Directory
 directory_held held directories n = option_and_then (kept_of directories) (held_at held n)
 
@@ -35,7 +35,7 @@ directory_held held directories n = option_and_then (kept_of directories) (held_
 abbrev pub row_held : List (List AttributeRow) → Node → Option AttributeRow
 row_held rows node = row_in rows (placed node.place)
 
--- in brief the attributes of a node that has this row or none
+-- the brief attributes of a node that has this row or none
 abbrev pub brief_by : Option AttributeRow → Node → Brief
 brief_by row node = record {
   size = node.part.len;
@@ -44,7 +44,7 @@ brief_by row node = record {
   mode = mode_by row node.mode;
 }
 
--- whose the node of a row is, and when it was changed; without a row it is this owner's
+-- the owner of a row's node, and when it was changed; without a row it is this owner
 abbrev pub stamp_by : Option AttributeRow → Owner → Stamp
 stamp_by given owner = record {
   seconds = option_map_or (λ r. r.seconds) given 0;
@@ -53,7 +53,7 @@ stamp_by given owner = record {
   gid = (owner_by given owner).gid;
 }
 
--- in brief the attributes of nodes
+-- the brief attributes of nodes
 abbrev pub briefs_of : List (List AttributeRow) → List Node → List Brief
 briefs_of rows held = map (λ node. brief_by (row_held rows node) node) held
 
@@ -65,11 +65,11 @@ position_held rows place = position_at (slice_index_or rows place.layer []) plac
 abbrev pub have_rows : List (List AttributeRow) → Bool
 have_rows rows = list_any (λ of_layer. not (nat_eq (length of_layer) 0)) rows
 
--- the stamp of the node with a number; the owner's if none is held
+-- the stamp of the node with a number; the owner's if none is kept
 abbrev pub stamp_held : List Stamp → Owner → ℕ → Stamp
 stamp_held stamps owner n = unwrap_or (held_at stamps n) (stamp_by None owner)
 
--- each node's stamp is held by its number, and no stamp if no layer has a row
+-- each node's stamp is kept by its number, and no stamps if no layer has a row
 pub record AreStampsOf (rows : List (List AttributeRow)) (owner : Owner) (held : List Node)
     (stamps : List Stamp) : Type 0 where
   pub each : (n : ℕ) (node : Node) → held_at held n ≡ Some node
@@ -91,7 +91,7 @@ attr_held n brief stamp = record {
   rdev = brief.rdev;
 }
 
--- a directory holds the number of the one above, and its rows with their keys
+-- a directory keeps the number of its parent, and its rows with their keys
 pub record IsHeldDirectory (stack : Stacked) (held : HeldDirectories) (directory : Directory)
     (p : ModelPlace) : Type 0 where
   pub parent_is : directory.parent ≡ number stack.entries (parent stack.entries p)
@@ -103,14 +103,14 @@ pub record IsHeldDirectory (stack : Stacked) (held : HeldDirectories) (directory
       (slice_range held.keys directory.rows_start directory.rows_end)
       (names (slice_range held.rows directory.rows_start directory.rows_end))
 
--- the directory of this node is held, and is the place's
+-- the directory of this node is kept, and is that of the place
 pub record HoldsDirectory (stack : Stacked) (held : HeldDirectories) (node : Node) (p : ModelPlace)
     : Type 0 where
   pub directory : Directory
   pub is : slice_get held.all node.directory ≡ Some directory
   pub holds : IsHeldDirectory stack held directory p
 
--- the node holds what the definitions say of its place
+-- the node keeps what the definitions say about its place
 pub record IsNode (stack : Stacked) (directories : HeldDirectories) (node : Node) (p : ModelPlace)
     : Type 0 where
   pub place : placed node.place ≡ p
@@ -122,8 +122,8 @@ pub record IsNode (stack : Stacked) (directories : HeldDirectories) (node : Node
   pub rdev_is : node.rdev ≡ rdev stack.layers p
   pub directory_is : is_directory node.kind ≡ true → HoldsDirectory stack directories node p
 
--- the nodes in the order of their numbers, what is held of the directories, and a key beside each
--- row
+-- the nodes in the order of their numbers, what is kept about the directories, and a key beside
+-- each row
 pub record AreNodes (stack : Stacked) (held : List Node) (directories : HeldDirectories)
     : Type 0 where
   pub level : length held ≡ length (nodes stack.entries)
@@ -139,19 +139,19 @@ pub record IsTable (stack : Stacked) (held : List Node) (directories : HeldDirec
   pub are : AreNodes (stacked stack.layers stack.entries) held directories
   pub blocks_are : blocks ≡ blocks_all stack.layers
 
--- the keys of each directory's rows are there
+-- the keys of each directory's rows are kept
 pub record HaveKeys (held : List Node) (directories : HeldDirectories) : Type 0 where
   pub each : (n : ℕ) (d : Directory) → directory_held held directories n ≡ Some d
       → (d.rows_start ≤ d.rows_end) × (d.rows_end ≤ length directories.keys)
 
--- the keys of the directories with numbers up to one are noted, each under its directory's
+-- the keys of the directories with numbers up to one are noted, each under its directory's number
 pub record AreNotedUpTo (held : List Node) (directories : HeldDirectories) (filter : List Bool)
     (last : ℕ) : Type 0 where
   pub each : (n : ℕ) (d : Directory) → n ≤ last → directory_held held directories n ≡ Some d
       → All (IsNoted filter n) (slice_range directories.keys d.rows_start d.rows_end)
 
--- what a table holds: the attributes of its nodes are held once more, with the modes that rows say;
--- the stamps and the extended attributes are those of its nodes; and all keys are noted
+-- what a table keeps: the attributes of its nodes once more, with the modes that rows give; the
+-- stamps and the extended attributes of its nodes; and all keys are noted
 pub record IsHeld (stack : Stacked) (held : List Node) (briefs : List Brief) (stamps : List Stamp)
     (xattrs : HeldXattrs) (directories : HeldDirectories) (filter : List Bool) (blocks : ℕ)
     : Type 0 where

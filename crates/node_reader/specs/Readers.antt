@@ -12,26 +12,26 @@ use Rattle.stack_model.specs.declared.attr.Attr.{Attr}
 use Rattle.node_reader.specs.declared.node.Node.{Node}
 use Rattle.node_reader.specs.Rows.{Line}
 
--- a place as the definitions have it
+-- a place, in the form of the definitions
 abbrev pub placed : Place → ModelPlace
 placed place = (place.layer, place.header)
 
 module _ (stack : Stacked) where
-  -- the number of the parent; none if the place is no directory
+  -- the number of the parent; none if the place is not a directory
   abbrev pub parent_of : ModelPlace → Option ℕ
   parent_of p =
       if is_directory_at stack.layers p
       then Some (number stack.entries (parent stack.entries p))
       else None
 
-  -- the number of the visible child with a name; none if the place is no directory
+  -- the number of the visible child with a name; none if the place is not a directory
   abbrev pub child_of : ModelPlace → List ℕ → Option ℕ
   child_of p name =
       if is_directory_at stack.layers p
       then option_map (number stack.entries) (child stack.entries p name)
       else None
 
-  -- the visible children of a place, in the order of their names; empty if it is no directory
+  -- the visible children of a place, in the order of their names; empty if it is not a directory
   abbrev pub rows_of : ModelPlace → List Line
   rows_of p =
       if is_directory_at stack.layers p
@@ -39,7 +39,7 @@ module _ (stack : Stacked) where
       (children stack.entries p)
       else []
 
--- the data that the node holds lie in the place's layer, and are the place's
+-- the data that the node keeps are in the place's layer, and are the place's
 pub record HoldsData (layers : List (List ℕ)) (layer : ℕ) (node : Node) (p : ModelPlace)
     : Type 0 where
   pub image : List ℕ
@@ -67,7 +67,7 @@ attr_at stack n = option_map (attr_of stack) (node_of stack.entries n)
 abbrev pub xattrs_at : Stacked → ℕ → List Extended
 xattrs_at stack n = option_map_or (xattrs_of stack) (node_of stack.entries n) []
 
--- the number of the directory above
+-- the number of the parent directory
 abbrev pub parent_at : Stacked → ℕ → Option ℕ
 parent_at stack n = option_and_then (parent_of stack) (node_of stack.entries n)
 

@@ -10,8 +10,8 @@ use Rattle.stack_model.specs.declared.owner.TheConstants.Owner.{ROOT}
 use Rattle.stack_model.specs.Listing.{Entry, Stacked, IsListing}
 use Rattle.stack_model.proofs.Listings.{one_listing}
 
--- the stack of these layers with these rows and the lists for them, and this owner of everything
--- without a row
+-- the stack of these layers with these rows and their lists, and this owner of everything without a
+-- row
 pub record IsTableWith (layers : List (List ℕ)) (rows : List (List AttributeRow))
     (lists : List (List (List Extended))) (owner : Owner) (stack : Stacked) : Type 0 where
   pub layers_are : stack.layers ≡ layers

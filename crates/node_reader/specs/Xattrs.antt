@@ -1,4 +1,4 @@
--- The extended attributes that a table holds.
+-- The extended attributes that a table keeps.
 use Rattle.std.specs.Prelude.{◌≡◌, ℕ, zero, suc, ◌+◌, List, [], length, Bool, false, not, nat_eq, Some}
 use Rattle.std.specs.List.{list_any, slice_index_or}
 use Rattle.std.specs.Option.{option_map_or}
@@ -54,7 +54,7 @@ list_of_node rows lists node = list_in rows lists (placed node.place)
 pub record AreBare (lists : List (List (List Extended))) : Type 0 where
   pub each : (layer position : ℕ) → slice_index_or (slice_index_or lists layer []) position [] ≡ []
 
--- each node's are those that its row leads to
+-- each node has those that its row leads to
 pub record AreXattrsOf (rows : List (List AttributeRow)) (held : List Node) (x : HeldXattrs)
     : Type 0 where
   pub each : (n : ℕ) (node : Node) → held_at held n ≡ Some node

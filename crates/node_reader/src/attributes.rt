@@ -1,4 +1,4 @@
-//! What is known of nodes besides their headers: rows of attributes, and an owner.
+//! What is known about nodes besides their headers: rows of attributes, and an owner.
 
 ghost use Rattle.std.specs.Prelude.{◌≡◌, ◌<◌, ◌^◌, [], slice_get, slice_index_or, IfOk};
 ghost use Rattle.std.specs.Option.{option_and_then};
@@ -18,8 +18,8 @@ use std::alloc::{AllocError, Allocator};
 /// The bits of a mode below its type, and one more.
 const PERMISSIONS: u32 = 0o1_0000;
 
-/// What a table gets besides its images: the rows of attributes of each layer, lowest first, the
-/// lists of extended attributes for these, and the owner of nodes without a row.
+/// What a table gets besides its images: the rows of attributes of each layer, lowest first, their
+/// lists of extended attributes, and the owner of nodes without a row.
 #[derive(Drop)]
 pub struct Attributes<A: Allocator> {
     pub rows: Vec<Rows<A>, A>,
@@ -28,7 +28,7 @@ pub struct Attributes<A: Allocator> {
 }
 
 impl<A: Allocator + Copy> Attributes<A> {
-    /// No rows: all belongs to the superuser.
+    /// No rows: everything belongs to the superuser.
     pub fn none(alloc: A) -> Self
         ensures rows { result.rows.items ≡ [] }
         ensures lists { result.lists.items ≡ [] }

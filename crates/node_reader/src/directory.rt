@@ -1,4 +1,4 @@
-//! What a table holds of its directories.
+//! What a table keeps about its directories.
 
 ghost use Rattle.std.specs.Prelude.{◌≡◌, ◌≤◌, length, slice_get, slice_range, Some, None, MatchOption};
 
@@ -6,7 +6,7 @@ use crate::row::Row;
 use std::alloc::Allocator;
 use std::marker::Model;
 
-/// What a table holds about a directory: the number of its parent, the place of its rows among all
+/// What a table keeps about a directory: the number of its parent, the place of its rows among all
 /// rows, and how many bytes their names share at the front.
 #[derive(Clone, Copy)]
 pub struct Directory {

@@ -1,4 +1,4 @@
-//! What is guessed of a row.
+//! Guesses about rows.
 
 /// Where the row of a directory's child may be among all rows, found by reading ahead. No answer
 /// depends on a guess: a right one saves steps.

@@ -2,15 +2,15 @@
 //! and data.
 //!
 //! A [`Table`] represents a stack: its layers, and the listing of their visible paths. Each reader
-//! answers by the definitions of `stack_model`, as `specs/Readers.antt` puts them together, for
-//! every number up to 2^64 - 1, and takes no memory. What the table's parts must say about the
-//! listing is its invariant (`specs/Held.antt`). Rows of attributes are given as `romfs_rows`
-//! reads them, and held in another form: owners and times by the numbers of nodes, 20 bytes each,
-//! and 12 bytes a row for the rest (`specs/Stamps.antt`). Extended attributes stay as `romfs_rows`
-//! keeps them, and a node has the position of its row (`specs/Xattrs.antt`).
+//! follows the definitions of `stack_model`, as `specs/Readers.antt` combines them, for every
+//! number up to 2^64 - 1, and takes no memory. The invariant of a table says what its parts must
+//! say about the listing (`specs/Held.antt`). Rows of attributes come as `romfs_rows` reads them
+//! and are kept in another form: owners and times by the numbers of nodes, 20 bytes each, and 12
+//! bytes a row for the rest (`specs/Stamps.antt`). Extended attributes stay as `romfs_rows` keeps
+//! them, and a node has the position of its row (`specs/Xattrs.antt`).
 //!
-//! `node_table` makes tables: the crates are two, so what answers from a table is proved beside its
-//! making, not after it. The crate uses `layer_paths` for places, `romfs_reader` for images,
+//! `node_table` makes tables. It is another crate, so what answers from a table is proved beside
+//! its making, not after it. The crate uses `layer_paths` for places, `romfs_reader` for images,
 //! `romfs_rows` for rows of attributes and `layer_names` for look-ups.
 #![tactic(auto)]
 

@@ -38,7 +38,7 @@ pub(crate) fn numbered<T>(all: &[T], number: u64) -> Option<&T>
     all.get((number - 1) as usize)
 }
 
-// The attributes of a node with this number, which has these in brief, and this stamp.
+// The attributes of the node with this number, from its brief attributes and its stamp.
 pub(crate) fn attr_of(number: u64, brief: &Brief, stamp: Stamp) -> Attr
     ensures { result ≡ attr_held number brief.now stamp }
 {
@@ -73,8 +73,8 @@ pub(crate) fn directory_at<'a, A: Allocator>(
     }
 }
 
-/// What knows names before the rows of their directory are searched. A clause sees the sizes of
-/// both parts.
+/// What is known about names before the rows of their directory are searched. A contract sees the
+/// sizes of both parts.
 #[derive(Drop)]
 pub(crate) struct Hints<A: Allocator> {
     /// The places of rows.
@@ -84,8 +84,7 @@ pub(crate) struct Hints<A: Allocator> {
 }
 
 // The place of this name among these rows of a directory with this number: by an earlier guess if
-// it is right, else by a new guess, or by their keys; by their keys at once if there are no
-// guesses.
+// it is right, otherwise by a new guess or by their keys; if there are no guesses, by their keys.
 #[inline(always)]
 pub(crate) fn place_of<A: Allocator>(
     rows: &[Row<A>],
@@ -114,7 +113,7 @@ pub(crate) fn place_of<A: Allocator>(
     find(rows, keys, directory.shared, &hints.filter, number, name)
 }
 
-// What knows the names of all directories' rows, from one pass over the nodes.
+// What is known about the names of all directories' rows, from one pass over the nodes.
 pub(crate) fn hints_of<A: Allocator + Copy>(
     alloc: A,
     nodes: &[Node],
@@ -138,7 +137,8 @@ pub(crate) fn hints_of<A: Allocator + Copy>(
     Ok(Hints { guesses, filter })
 }
 
-// The place of this name, if it is the guessed one among all rows. None means nothing.
+// The place of this name, if it is the guessed one among all rows. `None` says nothing about the
+// name.
 #[inline(always)]
 fn confirmed<A: Allocator>(
     rows: &[Row<A>],

@@ -1,4 +1,4 @@
-//! The places of nodes' rows of attributes, for nodes that mostly come in the order of rows.
+//! The places of nodes' rows of attributes, for nodes that mostly come in the order of their rows.
 
 ghost use Rattle.std.specs.Prelude.{◌≡◌, ◌+◌, ◌<◌, ◌^◌, IfSome};
 ghost use Rattle.node_reader.specs.Held.{position_held};
@@ -7,8 +7,8 @@ use layer_paths::Place;
 use romfs_rows::Rows;
 use std::alloc::{AllocError, Allocator};
 
-/// For each layer the position after the row that was found last: that row is tried first, and a
-/// binary search follows only if it is another's.
+/// For each layer, the position after the row that was found last. That row is tried first, and a
+/// binary search follows only if it belongs to another node.
 #[derive(Drop)]
 pub(crate) struct NextRows<A: Allocator> {
     positions: Vec<u32, A>,

@@ -1,4 +1,4 @@
-//! What a table holds of a node.
+//! What a table keeps about a node.
 
 use layer_paths::Place;
 use romfs_reader::{Kind, Part};
@@ -13,7 +13,7 @@ pub struct Node {
     pub place: Place,
     /// The place of its data in the image of its layer.
     pub part: Part,
-    /// Type and permissions, as the header says them; 0 until the node is completed.
+    /// Type and permissions, from the header; 0 until the node is completed.
     pub mode: u16,
     pub nlink: u32,
     /// The numbers of a device; until the node is completed, its header's spec.info.
@@ -22,9 +22,9 @@ pub struct Node {
     pub directory: usize,
 }
 
-/// The attributes of a node but for its number and its `Stamp`, in 16 bytes: a line of the
-/// processor's cache holds those of four nodes, so requests for attributes in any order find more
-/// of them there than nodes. The mode is the row's, if there is one.
+/// The attributes of a node without its number and its `Stamp`, in 16 bytes. A cache line holds
+/// those of four nodes, so requests for attributes in any order hit the cache more often than with
+/// whole nodes. The mode is the row's, if there is one.
 #[derive(Clone, Copy)]
 pub(crate) struct Brief {
     pub(crate) size: u32,

@@ -8,7 +8,8 @@ use layer_paths::Name;
 use std::alloc::Allocator;
 use std::marker::Model;
 
-/// A child of a directory: its number, and its name there. A short name is in the row itself.
+/// A child of a directory: its number, and its name there. A short name is stored in the row
+/// itself.
 #[derive(Drop)]
 pub struct Row<A: Allocator> {
     pub number: u64,
@@ -31,7 +32,7 @@ impl<A: Allocator> Row<A> {
         self.name.as_slice()
     }
 
-    /// The child's name with zeros behind it, up to 22 bytes; none of a longer name.
+    /// The child's name, padded with zeros to 22 bytes; none of a longer name.
     pub fn padded_name(&self) -> Option<&[u8; 22]>
         ensures { MatchOption result (22 < length self.now.name)
             (λ padded. IsPadded self.now.name padded.now) }

@@ -1,4 +1,4 @@
-//! A row of attributes whose owner and time are elsewhere.
+//! A row of attributes whose owner and time are stored elsewhere.
 
 ghost use Rattle.std.specs.Prelude.{◌≡◌, ◌<◌, ◌^◌, IfOk};
 ghost use Rattle.node_reader.specs.Stamps.{slim_of, stamped};
@@ -10,8 +10,8 @@ use std::marker::Model;
 /// How many numbers the lower part of a stamp's number can be.
 const LOW: u64 = 0x1_0000_0000;
 
-/// A row of attributes in 12 bytes: its mode, and the number of its stamp in 48 bits. A clause sees
-/// them, and the offset of the header that the row is for.
+/// A row of attributes in 12 bytes: its mode, and the number of its stamp in 48 bits. A contract
+/// sees them, and the offset of the header that the row is for.
 #[derive(Drop)]
 pub(crate) struct SlimRow {
     place: u32,
@@ -56,8 +56,8 @@ impl SlimRow {
         u64::from(self.stamp_high) * LOW + u64::from(self.stamp_low)
     }
 
-    /// The same row with another stamp, which has this number. No memory holds so many stamps that
-    /// this were an error.
+    /// The same row with another stamp, which has this number. No memory can hold enough stamps to
+    /// make this fail.
     pub(crate) fn with_stamp(&self, number: u64) -> Result<SlimRow, AllocError>
         ensures { IfOk result (λ slim. slim ≡ stamped number self.now) }
     {

@@ -1,4 +1,4 @@
-//! The rows of attributes of a layer, whose owners and times are elsewhere.
+//! The rows of attributes of a layer, whose owners and times are stored elsewhere.
 
 ghost use Rattle.std.specs.Prelude.{◌≡◌, ◌+◌, ◌<◌, length, map, IfOk};
 ghost use Rattle.node_reader.specs.Stamps.{slim_of, AreFirst, AreSlim, AreStamped};
@@ -10,7 +10,7 @@ use romfs_rows::Rows;
 use std::alloc::{AllocError, Allocator};
 use std::marker::Model;
 
-/// The rows of a layer, each with the number of its stamp. A clause sees them as a list.
+/// The rows of a layer, each with the number of its stamp. A contract sees them as a list.
 #[derive(Drop)]
 pub(crate) struct SlimRows<A: Allocator> {
     rows: Vec<SlimRow, A>,
@@ -62,7 +62,7 @@ impl<A: Allocator> SlimRows<A> {
         Ok(())
     }
 
-    /// Gives each row that has no stamp its own, behind these.
+    /// Gives each row without a stamp a stamp of its own, after these.
     pub(crate) fn stamp_others(
         &mut self,
         stamps: &mut Vec<KeptStamp, A>,

@@ -1,4 +1,4 @@
-//! Whose a node is, and when it was changed.
+//! The owner of a node, and when it was changed.
 
 ghost use Rattle.std.specs.Prelude.{◌≡◌};
 ghost use Rattle.node_reader.specs.Held.{stamp_by};
@@ -11,7 +11,7 @@ use std::marker::Model;
 /// How many numbers the lower half of a stamp's seconds can be.
 const HALF: u64 = 0x1_0000_0000;
 
-/// Whose a node is, and when it was changed last.
+/// The owner of a node, and when it was last changed.
 #[derive(Clone, Copy)]
 pub(crate) struct Stamp {
     pub(crate) seconds: u64,
@@ -21,10 +21,10 @@ pub(crate) struct Stamp {
 }
 
 /// A stamp in 20 bytes: its seconds are two halves, since an eight-byte number would make it 24. A
-/// clause sees the stamp.
+/// contract sees the stamp.
 #[derive(Drop)]
 pub(crate) struct KeptStamp {
-    // Lower half first, as on x86, where one load then reads both.
+    // Lower half first, as on x86: one load then reads both.
     seconds_low: u32,
     seconds_high: u32,
     nanoseconds: u32,
@@ -49,7 +49,7 @@ impl Model for KeptStamp {
 }
 
 impl KeptStamp {
-    /// A stamp, to be kept.
+    /// A stamp to be kept.
     pub(crate) fn of(stamp: Stamp) -> KeptStamp
         ensures { result ≡ stamp }
     {
@@ -75,7 +75,7 @@ impl KeptStamp {
     }
 }
 
-/// Whose the node of a row is, and when it was changed.
+/// The owner of a row's node, and when it was changed.
 pub(crate) fn stamp_of(row: &AttributeRow) -> Stamp
     ensures { result ≡ stamp_of row.now }
 {
@@ -87,7 +87,7 @@ pub(crate) fn stamp_of(row: &AttributeRow) -> Stamp
     }
 }
 
-/// The same of a node that has a row or none; without one it is this owner's.
+/// The same for a node with or without a row; without one, it has this owner.
 pub(crate) fn stamp_by(row: Option<AttributeRow>, owner: Owner) -> Stamp
     ensures { result ≡ stamp_by row owner }
 {

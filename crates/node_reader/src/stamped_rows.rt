@@ -16,11 +16,11 @@ use std::alloc::{AllocError, Allocator};
 use std::marker::Model;
 
 /// The rows of attributes of each layer, the lowest first, and the stamps of the nodes by number. A
-/// clause sees both.
+/// contract sees both.
 ///
-/// A stamp takes 20 bytes, and a row 12 more. The stamps of nodes come first, so a node's is found
-/// by its number at once, and a row of a node has the node's. After them come those of rows that
-/// belong to no node. If no layer has a row there are no stamps.
+/// A stamp takes 20 bytes, and a row 12 more. The stamps of nodes come first: a node's stamp is
+/// found by its number at once, and a row of a node has the number of the node's stamp. After them
+/// come the stamps of rows that belong to no node. If no layer has a row, there are no stamps.
 #[derive(Drop)]
 pub(crate) struct StampedRows<A: Allocator> {
     layers: Vec<SlimRows<A>, A>,
@@ -39,7 +39,7 @@ impl<A: Allocator> Model for StampedRows<A> {
 }
 
 impl<A: Allocator + Copy> StampedRows<A> {
-    /// These rows, and the stamps of these nodes; those without a row have this owner.
+    /// These rows, and the stamps of these nodes; nodes without a row have this owner.
     pub(crate) fn of(
         alloc: A,
         rows: &[Rows<A>],
@@ -64,7 +64,7 @@ impl<A: Allocator + Copy> StampedRows<A> {
 }
 
 impl<A: Allocator> StampedRows<A> {
-    /// The stamp of the node with this number; this owner's if none is held.
+    /// The stamp of the node with this number; that of this owner if none is kept.
     pub(crate) fn stamp(&self, number: u64, owner: Owner) -> Stamp
         ensures { result ≡ stamp_held self.now.stamps owner number }
     {
@@ -123,7 +123,7 @@ fn stamps_of<A: Allocator + Copy>(
     Ok(stamps)
 }
 
-// One more, which is that of this node, whose row was found.
+// Adds the stamp of one more node, whose row was found.
 fn stamp_node<A: Allocator>(
     stamps: &mut Vec<KeptStamp, A>,
     layers: &mut [SlimRows<A>],
@@ -156,7 +156,7 @@ fn bare<A: Allocator>(layers: &[SlimRows<A>]) -> usize {
     count
 }
 
-// Gives each row that has no stamp its own.
+// Gives each row without a stamp a stamp of its own.
 fn stamp_others<A: Allocator>(
     stamps: &mut Vec<KeptStamp, A>,
     layers: &mut [SlimRows<A>],

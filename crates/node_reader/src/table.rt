@@ -27,14 +27,15 @@ use std::marker::Model;
 
 /// The nodes of a stack of layers, by number: attributes, rows and data.
 ///
-/// A clause sees the layers, their listing, the layers' rows of attributes and lists of extended
-/// ones, the owner of nodes without a row, and whether the images are held in full. Each node and
-/// row takes at most 113 bytes besides a name of more than 22 (16 of them for guesses of places),
-/// and a directory 32 more. If any layer has a row of attributes, each node takes 20 more, and such
-/// a row 12, or 32 if it belongs to no node. If any has lists of extended attributes, each node
-/// takes 4 more, such a row of a layer with lists 4, and the lists what they take in the image. No
-/// reader takes memory, and each answers for every number: 1 is the root, and a number that is not
-/// in use has nothing.
+/// A contract sees the layers, their listing, the layers' rows of attributes and lists of extended
+/// attributes, the owner of nodes without a row, and whether the images are held in full.
+///
+/// Each node and row takes at most 113 bytes besides a name of more than 22 (16 of them for guesses
+/// of places), and a directory 32 more. If any layer has a row of attributes, each node takes 20
+/// more, and such a row 12, or 32 if it belongs to no node. If any layer has lists of extended
+/// attributes, each node takes 4 more, each row of a layer with lists 4 more, and the lists what
+/// they take in the image. No reader takes memory, and each answers for every number: 1 is the
+/// root, and a number that is not in use has nothing.
 ///
 /// ```text
 /// if let Some(number) = table.child(1, b"etc") {
@@ -44,12 +45,12 @@ use std::marker::Model;
 /// }
 /// ```
 ///
-/// All nodes are in one vector by their numbers, and all rows in another, those of a directory
-/// together; with each row goes the key by which its name is found (`layer_names`) if no guess
-/// finds it. A node keeps the place of its data, so no answer parses a header, and only a directory
+/// All nodes are in one vector, by their numbers, and all rows in another, those of a directory
+/// together. Beside each row is the key by which its name is found (`layer_names`) if no guess
+/// finds it. A node keeps the place of its data, so no answer parses a header; only a directory
 /// keeps more: the place of its rows, and its parent. Attributes are also in a list of their own,
-/// since most requests need nothing else of a node; owners and times in another, if any layer has a
-/// row of attributes. Rows are searched once, when the table is made.
+/// since most requests need nothing else of a node; owners and times are in another, if any layer
+/// has a row of attributes. Rows are searched once, when the table is made.
 #[derive(Drop)]
 pub struct Table<A: Allocator> {
     // The images of the layers, the lowest first.
@@ -57,7 +58,7 @@ pub struct Table<A: Allocator> {
     nodes: Vec<Node, A>,
     // The attributes of the nodes, in the same order.
     briefs: Vec<Brief, A>,
-    // The rows of attributes of each layer, and whose the nodes are, in the same order.
+    // The rows of attributes of each layer, and the stamps of the nodes, in the same order.
     rows: StampedRows<A>,
     xattrs: NodeXattrs<A>,
     owner: Owner,
@@ -107,7 +108,7 @@ impl<A: Allocator> Model for Table<A> {
 
 impl<A: Allocator + Copy> Table<A> {
     /// The table of images, lowest layer first, from their nodes and directories, and from what is
-    /// known besides their headers. Fails only if memory was refused.
+    /// known besides their headers. It fails only if memory is refused.
     pub fn of_parts(
         alloc: A,
         layers: Vec<Image<A>, A>,
@@ -141,7 +142,7 @@ impl<A: Allocator + Copy> Table<A> {
 }
 
 impl<A: Allocator> Table<A> {
-    /// How many nodes there are. They have the numbers from 1 on.
+    /// How many nodes there are. Their numbers begin at 1.
     pub fn len(&self) -> u64
         ensures value { result ≡ length (nodes self.now.entries) }
         ensures listing { IsListing self.now.layers self.now.entries }
@@ -156,7 +157,7 @@ impl<A: Allocator> Table<A> {
         self.layers.len()
     }
 
-    /// The image of a layer, lent; none where there is no such layer.
+    /// The image of a layer, borrowed; none if there is no such layer.
     pub fn view(&self, layer: usize) -> Option<ImageView<'_>>
         ensures { MatchOption result (slice_get self.now.layers layer ≡ None)
             (λ view. slice_get self.now.layers layer ≡ Some view) }
@@ -171,12 +172,13 @@ impl<A: Allocator> Table<A> {
         node_at(&self.nodes, number)
     }
 
-    /// The number of the child with this name in a directory; none if the number is no directory
-    /// that shows such a child. Names compare byte by byte, and neither `.` nor `..` is a child.
+    /// The number of the child with this name in a directory; none if the number is not that of a
+    /// directory with such a child. Names compare byte by byte, and neither `.` nor `..` is a
+    /// child.
     ///
-    /// If the row is guessed it reads one row, or few. Otherwise it takes as many steps over the
+    /// If the row is guessed, it reads one row, or few. Otherwise it takes as many steps over the
     /// keys of the directory's rows as their number has binary digits, and if many names have one
-    /// key at most as many over these names again.
+    /// key at most as many again over these names.
     #[inline(always)]
     pub fn child(&self, number: u64, name: &[u8]) -> Option<u64>
         ensures { result ≡ child_at self.now number name.now }
@@ -184,7 +186,7 @@ impl<A: Allocator> Table<A> {
         self.child_guessed(number, name, Guess::Unknown)
     }
 
-    /// The same with an earlier [`guess`](Table::guess). Any guess gives the same child, and with a
+    /// The same with an earlier [`guess`](Table::guess). Every guess gives the same child; with a
     /// right one no other row is read.
     #[inline(always)]
     pub fn child_guessed(&self, number: u64, name: &[u8], guess: Guess) -> Option<u64>
@@ -198,8 +200,7 @@ impl<A: Allocator> Table<A> {
         Some(row.number)
     }
 
-    /// Reads ahead what [`guess`](Table::guess) reads for these hashes. What comes of it says
-    /// nothing.
+    /// Reads ahead what [`guess`](Table::guess) reads for these hashes. The result is meaningless.
     pub fn read_guesses(&self, hashes: &[u64]) -> u32 {
         self.hints.guesses.read_ahead(hashes)
     }
@@ -211,13 +212,13 @@ impl<A: Allocator> Table<A> {
         self.hints.guesses.first(hash)
     }
 
-    /// The row at a guessed place among all rows; none beyond the last.
+    /// The row at a guessed place among all rows; none after the last.
     pub fn guessed(&self, place: usize) -> Option<&Row<A>> {
         self.directories.rows.get(place)
     }
 
     /// The children of a directory in the order of their names, without `.` and `..`; empty if the
-    /// number is no directory.
+    /// number is not a directory's.
     #[inline(always)]
     pub fn rows(&self, number: u64) -> &[Row<A>]
         ensures { result.now ≡ rows_at self.now number }
@@ -228,8 +229,8 @@ impl<A: Allocator> Table<A> {
         }
     }
 
-    /// The number of a directory's parent, the root being its own; none if the number is no
-    /// directory.
+    /// The number of a directory's parent; the root is its own parent. None if the number is not a
+    /// directory's.
     #[inline(always)]
     pub fn parent(&self, number: u64) -> Option<u64>
         ensures { result ≡ parent_at self.now number }
@@ -276,8 +277,8 @@ impl<A: Allocator> Table<A> {
         self.xattrs.has_acls()
     }
 
-    /// The data of a regular file, or the target of a symbolic link; empty if the number is
-    /// neither. A reply's header can hold their length. It requires images held in full.
+    /// The data of a regular file, or the target of a symbolic link; empty for any other number.
+    /// Their length fits in a reply's header. It requires images held in full.
     pub fn bytes(&self, number: u64) -> &[u8]
         requires { self.now.whole ≡ true }
         ensures value { result.now ≡ data_of_number self.now number }

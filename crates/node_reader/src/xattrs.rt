@@ -13,10 +13,10 @@ use romfs_rows::{FileXattrs, RowLists, Rows};
 use std::alloc::{AllocError, Allocator};
 use std::marker::Model;
 
-/// The extended attributes of all layers, lowest first, and whose the nodes are. A clause sees
-/// these lists and, for each node, the position of its row.
+/// The extended attributes of all layers, lowest first, and the nodes that they belong to. A
+/// contract sees these lists and, for each node, the position of its row.
 ///
-/// Besides the lists it takes 4 bytes a row and 4 a node, and nothing a node if no layer has lists.
+/// Besides the lists it takes 4 bytes a row and 4 a node; nothing for nodes if no layer has lists.
 #[derive(Drop)]
 pub(crate) struct NodeXattrs<A: Allocator> {
     layers: Vec<RowLists<A>, A>,
@@ -41,7 +41,7 @@ impl<A: Allocator> Model for NodeXattrs<A> {
 }
 
 impl<A: Allocator + Copy> NodeXattrs<A> {
-    /// Those of these nodes, whose layers have these rows and lists.
+    /// The extended attributes of these nodes, whose layers have these rows and lists.
     pub(crate) fn of(
         alloc: A,
         layers: Vec<RowLists<A>, A>,
@@ -82,14 +82,14 @@ impl<A: Allocator> NodeXattrs<A> {
         }
     }
 
-    /// Whether a node has some.
+    /// Whether any node has attributes.
     pub(crate) fn has_some(&self) -> bool
         ensures { result ≡ self.now.some }
     {
         self.some
     }
 
-    /// Whether one has an access control list.
+    /// Whether any node has an access control list.
     pub(crate) fn has_acls(&self) -> bool
         ensures { result ≡ self.now.acls }
     {
@@ -97,7 +97,7 @@ impl<A: Allocator> NodeXattrs<A> {
     }
 }
 
-/// What is known of nodes.
+/// What is known about nodes.
 #[derive(Drop)]
 struct Found<A: Allocator> {
     positions: Vec<u32, A>,
@@ -105,7 +105,7 @@ struct Found<A: Allocator> {
     acls: bool,
 }
 
-// The positions of the rows of nodes, and what lists these lead to.
+// The positions of the rows of nodes, and what these rows' lists contain.
 fn found_in<A: Allocator + Copy>(
     alloc: A,
     layers: &[RowLists<A>],
@@ -146,7 +146,7 @@ fn row_number<A: Allocator>(rows: &[Rows<A>], next: &mut NextRows<A>, node: &Nod
     }
 }
 
-// Whether a node has attributes, or one before it had some.
+// Whether a node has attributes, or one before it has.
 fn or_some<A: Allocator>(before: bool, layers: &[RowLists<A>], node: &Node, position: u32) -> bool
     ensures { result ≡ (before || has_some (list_held layers.now node.now.place.layer position)) }
 {
@@ -159,7 +159,7 @@ fn or_some<A: Allocator>(before: bool, layers: &[RowLists<A>], node: &Node, posi
     }
 }
 
-// Whether it has an access control list, or one before it had one.
+// Whether a node has an access control list, or one before it has.
 fn or_acl<A: Allocator>(before: bool, layers: &[RowLists<A>], node: &Node, position: u32) -> bool
     ensures { result ≡ (before || has_acl (list_held layers.now node.now.place.layer position)) }
 {

@@ -1,6 +1,5 @@
--- The rows of children. Rowing is the loop over children: it starts with
--- none, a child is a directory or another (follows tells where it stands), and it ends with
--- AddsRows.
+-- The rows of children. Rowing is the loop over children: it starts with none, a child is a directory or something else (follows gives its
+-- place), and it ends with AddsRows.
 use Rattle.std.proofs.Common.{◌≡◌, ◌∙◌, sym, ap, subst, ℕ, zero, suc, ◌+◌, ◌-◌, ◌<◌, ◌≤◌, List, [], ◌∷◌, ◌++◌, length, map, take, drop, get_or, refl, arith, append_assoc, length-append, Bool, true, false}
 use Rattle.std.specs.List.{AllByRecursion}
 use Rattle.std.specs.declared.cmp.Ordering.TheVariants.{Less}
@@ -61,7 +60,7 @@ module _ (tell : Place → ℕ) (cs : List (Subtree Entry)) (i : ℕ) (c : Subtr
       let few = so_far.few in
       record { rows = rows_now; count = so_far.count ∙ sym same; few = omega arith }
 
--- of children that follow one another, the next one stands here and the rest after it
+-- for children that follow one another, the next one is here and the rest after it
 pub follows : (tell : Place → ℕ) (numbers sizes : List ℕ) (at : ℕ) (cs : List (Subtree Entry)) (i : ℕ) (c : Subtree Entry) → i < length cs
     → c ≡ get_or cs i c → AreFollowing tell numbers sizes at (drop i cs) → HasNumberAndSize tell numbers sizes at c
     × AreFollowing tell numbers sizes (at + length (whole c)) (drop (i + 1) cs)
@@ -87,7 +86,7 @@ follows tell numbers sizes at cs i c l e f = let n : suc i ≡ i + 1 = omega ari
 pub rows_begun : (tell : Place → ℕ) (cs : List (Subtree Entry)) (old : List Line) → Rowing tell cs old old 0 0
 rows_begun tell cs old = record { rows = sym (append-nil old); count = refl; few = omega arith }
 
--- past the last child the rows of all are added
+-- after the last child the rows of all are added
 pub rows_ended : (tell : Place → ℕ) (cs : List (Subtree Entry)) (old new : List Line) (n i : ℕ) → length cs ≤ i → Rowing tell cs old new n i
     → AddsRows tell cs old new n
 rows_ended tell cs old new n i le r = record {
@@ -111,12 +110,12 @@ names_rise tell (c ∷ cs) r (suc i) (suc j) d l m = names_rise tell cs r.1 i j 
 
 -- what a directory adds, and what any other branch does
 module _ {A : Type 0} (tell : Place → ℕ) (first : First A) (nlink : ℕ) (old new : HeldDirectories) where
-  -- where the kind is a directory, a linked directory is what is to be added
+  -- if the kind is a directory, a linked directory is to be added
   pub added_directory : first.branch.now.value.kind ≡ Directory → AddsLinked tell first nlink old new
       → AddsByKind tell first nlink old new
   added_directory is_one linked = rw (ap is_directory is_one) linked
 
-  -- where it is none, nothing is to be added
+  -- if it is not, nothing is to be added
   pub added_other : (first.branch.now.value.kind ≡ Directory → ⊥) → AddsNothing first.paths nlink old new
       → AddsByKind tell first nlink old new
   added_other is_none nothing = rw (not_directory first.branch.now.value.kind is_none) nothing

@@ -51,7 +51,7 @@ module _ {X : Type 0} (f : X → X) where
   all_changed (x ∷ old) (y ∷ now) l g = ap (λ z. z ∷ now) (g 0 y (omega arith))
       ∙ ap (λ zs. f x ∷ zs) (all_changed old now (omega arith) (λ k d m. g (suc k) d (omega arith)))
 
-  -- past the last element the whole list is changed
+  -- after the last element the entire list is changed
   pub change_ended : (old now : List X) (i : ℕ) → length now ≤ i → Changing f old now i → now ≡ map f old
   change_ended old now i le c = all_changed old now c.level (λ k d m. let l = c.level in c.done k d (omega arith) m)
 
@@ -90,7 +90,7 @@ sums_on images blocks i full a s lt at f image =
         go (x ∷ images) zero s lt at = (subst IsImage at image, tt)
         go (x ∷ images) (suc i) s lt at = (s.0, go images i s.1 (omega arith) at)
 
--- past the last image the sum is that of all images, and all are sound
+-- after the last image the sum is that of all images, and all are sound
 pub sums_all : (images : List (List ℕ)) (blocks i : ℕ) → Summing images blocks i → length images ≤ i → (blocks ≡ blocks_all images)
     × AllByRecursion IsImage images
 sums_all images blocks i s le = let w = take_all i images le in

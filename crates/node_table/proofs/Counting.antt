@@ -1,7 +1,6 @@
--- Places numbered one after another. IsNumbered is the loop over visits: it begins with none, and a
--- visit has a place with a number (was_known) or a new one (is_new). The first place of its key
--- tells which of the two it is, and the number (taken_from_first). Where each visit's place is new,
--- the numbers are those from 1 on (numbered_apart).
+-- Places numbered one after another. IsNumbered is the loop over visits: it begins with none, and a visit has a place with a number
+-- (was_known) or a new one (is_new). The first place of its key says which of the two it is, and the number (taken_from_first). If each
+-- visit's place is new, the numbers are those from 1 on (numbered_apart).
 use Rattle.std.proofs.Common.{◌≡◌, ◌≢◌, ◌∙◌, sym, ap, subst, ℕ, zero, suc, ◌+◌, ◌-◌, ◌^◌, ◌<◌, ◌≤◌, ◌⊎◌, inl, inr, List, [], ◌∷◌, ◌++◌, length, take, get_or, map, refl, arith, Bool, true, false, cond, Option, Some, None, IsSome, get_or-set_other, get_or-set_same, length-set}
 use Rattle.std.specs.Prelude.{slice_get, slice_index, slice_set, fold, nat_eq, min, count_by}
 use Rattle.std.specs.List.{list_any, position_from}
@@ -199,7 +198,7 @@ numbers_begun visits first starts paths numbers e d f n = record {
     empty : [] ≡ nodes []
     empty = refl
 
--- the first visits of places, where they stand, how many paths they have, and the numbers of visits
+-- the first visits of places, their positions, how many paths they have, and the numbers of visits
 pub record Numbers : Type 0 where
   pub first : List (Visit Entry)
   pub starts : List ℕ
@@ -402,7 +401,7 @@ pub record HasNumber (visits : List (Visit Entry)) (visit : Visit Entry) (paths 
   pub positive : 1 ≤ n
   pub counted : n - 1 < length paths
 
--- the visit at i has a new place where the first place of its key is i; where that is another one,
+-- the visit at i has a new place if the first place of its key is i; if that is another one,
 -- the number that is read there, among those so far, is the visit's
 pub record TakesNumber (visits : List (Visit Entry)) (paths numbers : List ℕ) (i before : ℕ) : Type 0 where
   pub visit : Visit Entry
@@ -503,7 +502,7 @@ module _ (visits : List (Visit Entry)) (keys firsts : List ℕ) (are : AreKeys v
       has n is = let b = number_positive visits i visit.0 held lt visit.1 inv n is in
           record { is = is; positive = b.0; counted = b.1 }
 
--- what is held of branches apart depends on how many they are
+-- what is kept about branches apart depends only on how many they are
 pub apart_told : {A : Type 0} {form : Form A} {told : Numbering} (n : ℕ) → form ≡ Apart n → numbering_of form ≡ told
     → numbers_apart n ≡ told
 apart_told n is view = sym (ap numbering_of is) ∙ view
@@ -513,7 +512,7 @@ module _ {told : Numbering} (n : ℕ) (is : numbers_apart n ≡ told) where
   pub length_apart : n ≡ length told.starts
   length_apart = sym (length-map-range_with_len (λ k. k) 0 n) ∙ ap (λ (x : Numbering). length x.starts) is
 
-  -- each stands at its number less one
+  -- each is at its number minus one
   pub start_apart : (at : ℕ) → at < length told.starts → at ≡ slice_index told.starts at
   start_apart at within = sym (get_or-map-range_with_len (λ k. k) 0 n at at 0 (omega (arith, within, length_apart)) (omega arith))
       ∙ ap (λ (x : Numbering). slice_index x.starts at) is
@@ -526,8 +525,8 @@ module _ {told : Numbering} (n : ℕ) (is : numbers_apart n ≡ told) where
       sym (get_or-map-range_with_len (λ k. k + 1) 0 n at at 0 (omega (arith, within, level)) (omega arith))
       ∙ ap (λ (x : Numbering). slice_index x.numbers at) is
 
--- where each place is the first of its key, no two branches have one place: as many branches as have
--- been gone over are numbered by where they stand
+-- if each place is the first of its key, no two branches have one place: as many branches as have been passed are numbered by their
+-- positions
 module _ (visits : List (Visit Entry)) (keys firsts : List ℕ) (are : AreKeys visits keys) (f : AreFirsts keys firsts)
     (themselves : AreThemselves (length firsts) firsts) where
   abbrev apart : ℕ → Numbers

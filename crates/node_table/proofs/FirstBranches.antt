@@ -1,6 +1,6 @@
--- The first branches of a stack's tree, by number. That they agree with the listing of its layers
--- says firsts_agree, by Shown and ListedPlaces; where they and their children stand, and where their
--- parents' numbers do, says firsts_stand. Both are of a walk over the whole tree (walked_all).
+-- The first branches of a stack's tree, by number. firsts_agree says, with Shown and ListedPlaces, that they agree with the listing of its
+-- layers; firsts_stand says where they, their children and their parents' numbers are. Both are about a walk over the entire tree
+-- (walked_all).
 use Rattle.std.proofs.Common.{◌≡◌, ◌∙◌, sym, ap, subst, ℕ, suc, ◌+◌, ◌-◌, ◌^◌, ◌<◌, List, [], ◌∷◌, ◌++◌, length, map, refl, arith, append_assoc, length-append, cond, Some}
 use Rattle.std.specs.Prelude.{slice_get, slice_index, min, count_by, unwrap_or}
 use Rattle.std.specs.List.{AllByRecursion}
@@ -65,7 +65,7 @@ paths_by es fs p e =
     ∙ ap (count (same_place p)) e
     ∙ sym (count_places p fs) ∙ counted (λ (e : Listed). same_place p (place e)) fs
 
--- the visits are a walk over the whole tree of a stack of sound images, and their places are numbered
+-- the visits are a walk over the entire tree of a stack of sound images, and their places are numbered
 pub record WalksTree (layers : List (List ℕ)) (t : TreeRows) (root : Subtree Entry) (visits : List (Visit Entry))
     (places : List ℕ) (held : Numbers) : Type 0 where
   pub tree : IsTreeOf 0 layers t
@@ -208,7 +208,7 @@ module _ (layers : List (List ℕ)) (t : TreeRows) (root : Subtree Entry) (visit
     },
   )
 
-  -- where the numbers and sizes of visits stand
+  -- where the numbers and sizes of visits are
   module _ (sizes : List ℕ) (sized : sizes ≡ map visit_size visits) where
     numbers_level : length held.numbers ≡ length visits
     numbers_level = walk.numbered.numbers_level
@@ -263,7 +263,7 @@ module _ (layers : List (List ℕ)) (t : TreeRows) (root : Subtree Entry) (visit
             let q = length-append (prefixed c.name c.below) [] in
             omega arith
 
-    -- they stand where starts say, with the numbers of their parents and children at hand
+    -- they are at the positions in starts, with the numbers of their parents and children
     pub firsts_stand : StandAtStarts (record { visits = visits; above = places; sizes = sizes }) held.numbers held.first held.starts
     firsts_stand = record {
       level = walk.numbered.starts_level;

@@ -1,6 +1,5 @@
--- What is kept of directories, as nodes are made. A directory that is added last holds the rows and
--- the parent of its place (is_made), with a key for each row (level_made). What nodes hold of
--- directories stays as more are added (still_node).
+-- What is kept about directories, as nodes are made. A directory that is added last has the rows and the parent of its place (is_made),
+-- with a key for each row (level_made). What is kept about the directories of nodes stays as more are added (still_node).
 use Rattle.std.proofs.Common.{◌≡◌, ◌∙◌, sym, ap, subst, ℕ, ◌-◌, ◌≤◌, List, [], ◌∷◌, ◌++◌, length, take, drop, map, refl, arith, length-append, true}
 use Rattle.std.specs.Prelude.{slice_range}
 use Rattle.std.proofs.lemmas.List.{drop-append-le, drop_at, length-drop, length-map, take-append-le, take_all}
@@ -21,7 +20,7 @@ use Rattle.node_table.specs.Building.{line_in, IsMade}
 use Rattle.node_table.specs.Agreement.{AgreeBelow}
 use Rattle.node_table.proofs.Lists.{get_front}
 
--- rows that stand stay as more are added
+-- existing rows stay as more are added
 range_stays : {X : Type 0} (xs ys : List X) (start end : ℕ) → start ≤ end → end ≤ length xs
     → slice_range (xs ++ ys) start end ≡ slice_range xs start end
 range_stays xs ys start end rises within = ap (take (end - start)) (drop-append-le start xs ys (omega arith))
@@ -38,7 +37,7 @@ keyed_by : (shared : ℕ) (keys keys' : List ℕ) (rows rows' : List Line) → k
 keyed_by shared keys keys' rows rows' same_keys same_rows keyed = subst (λ (x : List ℕ). AreKeyed shared x (names rows')) same_keys
     (subst (λ (x : List Line). AreKeyed shared keys (names x)) same_rows keyed)
 
--- directories, rows and their keys, with more behind them
+-- directories, rows and their keys, with more after them
 abbrev pub with_more : HeldDirectories → Directory → List Line → List ℕ → HeldDirectories
 with_more held d rows keys = record { all = held.all ++ d ∷ []; rows = held.rows ++ rows; keys = held.keys ++ keys }
 

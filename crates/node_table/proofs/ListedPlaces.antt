@@ -1,6 +1,6 @@
--- The branches of a stack's tree agree with the listing of its layers. Rows and visits have the same
--- places in the same order (places_same); where a place's first branch stands among the rows gives
--- what the listing says of the place: path_is, parent_is and children_are.
+-- The branches of a stack's tree agree with the listing of its layers. Rows and visits have the same places in the same order
+-- (places_same); the position of a place's first branch among the rows gives what the listing says about the place: path_is, parent_is and
+-- children_are.
 use Rattle.std.proofs.Common.{◌≡◌, ◌∙◌, sym, ap, subst, ℕ, zero, suc, ◌-◌, inl, inr, List, [], ◌∷◌, ◌++◌, length, take, map, refl, arith, append_assoc, Bool, true, false, Option, Some, None}
 use Rattle.std.specs.Prelude.{slice_get, slice_index, find, fold}
 use Rattle.std.specs.List.{AllByRecursion, filter_map, position_from}

@@ -1,7 +1,6 @@
--- Nodes made one by one are those of a table. Making is the loop over first branches, each of which
--- is read at its place among the visits (next_first): a node that is made is the listing's
--- (is_node), and those before it stay so (stays). With all made and completed, table_made has what
--- a table holds.
+-- Nodes made one by one are those of a table. Making is the loop over first branches, each of which is read at its place among the visits
+-- (next_first): a node that is made is the listing's (is_node), and those before it stay so (stays). With all made and completed,
+-- table_made has what a table keeps.
 use Rattle.std.proofs.Common.{◌≡◌, ◌∙◌, sym, ap, subst, ℕ, ◌+◌, ◌-◌, ◌^◌, ◌<◌, inl, inr, List, [], ◌∷◌, ◌++◌, length, take, get_or, map, refl, arith, length-append, Bool, true, false, cond, Some}
 use Rattle.std.specs.Prelude.{slice_get, slice_index, min, count_by}
 use Rattle.std.specs.Bool.{MatchBool}
@@ -33,16 +32,14 @@ use Rattle.layer_paths.proofs.Lists.{get_of_map}
 use Rattle.node_table.proofs.Lists.{element_below, get_end, get_push, get_map}
 use Rattle.node_table.proofs.Keeping.{still_node, level_made, is_made}
 
--- how far the making of nodes has come: the first i nodes are those of the first i places, once
--- completed
+-- how far the making of nodes has come: the first i nodes are those of the first i places, once completed
 pub record Making (stack : Stacked) (made : List Node) (directories : HeldDirectories) (i : ℕ) : Type 0 where
   pub level : length made ≡ i
   pub keys_level : length directories.keys ≡ length directories.rows
   pub each : (k : ℕ) (node : Node) (p : ModelPlace) → slice_get made k ≡ Some node → slice_get (nodes stack.entries) k ≡ Some p
       → IsNode stack directories (completed node) p
 
--- a node was made of a first branch that agrees with the listing, and its directory was added to what was
--- held before
+-- a node was made from a first branch that agrees with the listing, and its directory was added to what was kept before
 pub record IsMadeOf {A : Type 0} (stack : Stacked) (tell : Place → ℕ) (first : First A) (old new : HeldDirectories) (node : Node)
     : Type 0 where
   pub agrees : AgreesAtPlace stack tell first.parent first.paths first.branch
@@ -103,7 +100,7 @@ module _ {A : Type 0} {stack : Stacked} {tell : Place → ℕ} {first : First A}
   rdev_is = ap (λ k. rdev_of k node.rdev) kind_is ∙ ap (rdev_of (kind_at layers (visit_place visit))) read.spec_is
       ∙ ap (λ x. rdev_of (kind_at layers (visit_place visit)) (spec x visit.now.value.place.header)) (sym layer)
 
-  -- what a branch adds that is a directory, or is none
+  -- what a first branch adds, whether or not it is a directory
   abbrev Adds : Bool → Type 0
   Adds is_one = MatchBool is_one (AddsLinked tell first node.nlink old new) (AddsNothing first.paths node.nlink old new)
 
@@ -164,7 +161,7 @@ module _ {A : Type 0} {stack : Stacked} {tell : Place → ℕ} {first : First A}
       (sym its.keys_are.is) (still_node stack old d lines its.keys_are.keys n p made.level is)))
   stays_by false nothing n p is = subst (λ (x : HeldDirectories). IsNode stack x n p) (sym nothing.same) is
 
-  -- nodes that stand stay what they are
+  -- existing nodes are unchanged
   pub stays : (n : Node) (p : ModelPlace) → IsNode stack old n p → IsNode stack new n p
   stays = stays_by (is_directory visit.now.value.kind) made.adds.adds
 
@@ -188,9 +185,8 @@ module _ {A : Type 0} {stack : Stacked} {tell : Place → ℕ} {first : First A}
     directory_is = λ is_one. holds_both.1 (sym (ap is_directory kind_is) ∙ is_one);
   }
 
--- the first branches of all places, as the walk and the numbering left them: the walk, the number of each
--- branch, and of each first branch where it stands and how many paths its place has. They agree with the
--- listing
+-- the first branches of all places, as the walk and the numbering left them: the walk, the number of each branch, and for each first branch
+-- its position and how many paths its place has. They agree with the listing
 pub record FirstBranches (stack : Stacked) : Type 0 where
   pub walk : Walk Entry
   pub numbers : List ℕ
@@ -200,7 +196,7 @@ pub record FirstBranches (stack : Stacked) : Type 0 where
   pub agree : AgreeWithListing stack (number_among walk.visits) (number_above numbers walk.above) first starts paths
   pub stand : StandAtStarts walk numbers first starts
 
--- there is a first branch of this number, and it stands here among the visits
+-- there is a first branch with this number, and it is here among the visits
 pub record HasStart (starts : List ℕ) (i start : ℕ) : Type 0 where
   pub more : i < length starts
   pub held : start ≡ slice_index starts i
@@ -209,8 +205,8 @@ pub record HasStart (starts : List ℕ) (i start : ℕ) : Type 0 where
 pub has_start : {starts : List ℕ} {i start : ℕ} → start ≡ slice_index starts i → i < length starts → HasStart starts i start
 has_start read more = record { more = more; held = read }
 
--- the first branch of a number as the code reads it, at the place that is held for it: what it says
--- agrees with the listing, and the numbers of its parent and its children stand where they are looked for
+-- the first branch with a number, as the code reads it at the place that is kept for it: what it says agrees with the listing, and the
+-- numbers of its parent and its children are where they are looked up
 pub record IsNextFirst (stack : Stacked) (all : FirstBranches stack) (i start : ℕ) (visit : Visit Entry) : Type 0 where
   pub within : i < length all.paths
   pub placed : slice_get (nodes stack.entries) i ≡ Some (visit_place visit)
@@ -226,7 +222,7 @@ module _ {stack : Stacked} (all : FirstBranches stack) {i start : ℕ} (stands :
   there : slice_get all.walk.visits start ≡ Some branch.0
   there = subst (λ n. slice_get all.walk.visits n ≡ Some branch.0) (sym stands.held) (all.stand.there i branch.0 branch.1)
 
-  -- the place that is held for a first branch is among the visits
+  -- the place that is kept for a first branch is among the visits
   pub start_within : start < length all.walk.visits
   start_within = slice_get_within all.walk.visits start branch.0 there
 
@@ -257,7 +253,7 @@ nodes_begun stack made directories none no_rows no_keys = record {
   each = λ k node p at there. absurd (let impossible = rw none at at in cc);
 }
 
--- with the node of the next first branch one node more is made
+-- with the node of the next first branch one more node is made
 pub node_made : {A : Type 0} {stack : Stacked} {tell : Place → ℕ} {first : First A} {old new : HeldDirectories} {node : Node}
     {before after : List Node} (i : ℕ) → IsMadeOf stack tell first old new node
     → slice_get (nodes stack.entries) i ≡ Some (visit_place first.branch) → Making stack before old i → after ≡ before ++ node ∷ []
@@ -277,7 +273,7 @@ node_made {A} {stack} {tell} {first} {old} {new} {node} {before} i made place_is
   ];
 }
 
--- past the last first branch all nodes are made
+-- after the last first branch all nodes are made
 pub nodes_ended : {layers : List (List ℕ)} {entries : List Listed} {tell : Place → ℕ} {above : ℕ → ℕ} {first : List (Visit Entry)}
     {starts paths : List ℕ} {made : List Node} {directories : HeldDirectories} {i : ℕ}
     → AgreeWithListing (stacked layers entries) tell above first starts paths → i ≡ length first
@@ -294,7 +290,7 @@ nodes_ended {layers} {entries} {first = first} {made = made} {directories = dire
   },
 )
 
--- all nodes, completed, with what is held of directories and the sum of blocks are what a table holds
+-- all nodes, completed, with what is kept about directories and the sum of blocks are what a table keeps
 pub table_made : (layers : List (List ℕ)) (made new tail : List Node) (directories : HeldDirectories) (n blocks : ℕ)
     → AreMade layers made directories → new ≡ map completed made → n ≡ length new → blocks ≡ blocks_all layers
     → IsSomeTable layers (take n (new ++ tail)) directories blocks

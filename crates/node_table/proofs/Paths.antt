@@ -1,6 +1,6 @@
--- Paths that begin with a path, and rows below one. The main lemma is child_located: a child of a
--- located branch is located too. The lemmas before it tell that no other row begins with the
--- child's path: not those before and after the branch, and not those of children with other names.
+-- Paths that begin with a path, and rows below one. The main lemma is child_located: a child of a located branch is located too. The lemmas
+-- before it say that no other row begins with the child's path: not those before and after the branch, and not those of children with other
+-- names.
 use Rattle.std.proofs.Common.{◌≡◌, ◌≢◌, ◌∙◌, sym, ap, ℕ, suc, ◌+◌, ◌-◌, inl, inr, List, [], ◌∷◌, ◌++◌, length, take, refl, arith, append_assoc, length-append, true, false, Some}
 use Rattle.std.specs.Prelude.{find}
 use Rattle.std.specs.List.{AllByRecursion}
@@ -49,7 +49,7 @@ pub same_top : (top : Path) → same_path top (top ++ []) ≡ true
 same_top [] = refl
 same_top (m ∷ top) = rw (same_itself m) (same_top top)
 
--- what goes on below top with another name does not begin with the longer path
+-- what continues below top with another name does not begin with the longer path
 pub other_name : (top : Path) (n m : List ℕ) (q : Path) → n ≢ m → extends (top ++ n ∷ []) (top ++ m ∷ q) ≡ false
 other_name [] n m q d = rw (differ n m d) refl
 other_name (k ∷ top) n m q d = rw (same_itself k) (other_name top n m q d)
@@ -59,7 +59,7 @@ pub upper : (top : Path) (n : List ℕ) → take (length (top ++ n ∷ []) - 1) 
 upper top n = take_at top (n ∷ []) (length (top ++ n ∷ []) - 1) (omega (arith, length_push top n))
 
 module _ {T : Type 0} where
-  -- two lists of rows, one after the other, are so too when put below a path
+  -- two lists of rows, one after the other, stay so below a path
   pub under_append : (top : Path) (xs ys : Rows T) → under top (xs ++ ys) ≡ under top xs ++ under top ys
   under_append top xs ys = map-append (λ (row : Path × T). (top ++ row.0, row.1)) xs ys
 
@@ -67,14 +67,14 @@ module _ {T : Type 0} where
   pub length_under : (top : Path) (xs : Rows T) → length (under top xs) ≡ length xs
   length_under top xs = length-map xs (λ (row : Path × T). (top ++ row.0, row.1))
 
-  -- rows behind a name and then below a path are rows below the path with the name
+  -- rows after a name and then below a path are rows below the path with the name
   pub under_prefixed : (top : Path) (n : List ℕ) (xs : Rows T) → under top (prefixed n xs) ≡ under (top ++ n ∷ []) xs
   under_prefixed top n [] = refl
   under_prefixed top n (x ∷ xs) =
       ap (λ p. (p, x.1) ∷ under top (prefixed n xs)) (sym (append_assoc top (n ∷ []) x.0))
       ∙ ap (λ r. ((top ++ n ∷ []) ++ x.0, x.1) ∷ r) (under_prefixed top n xs)
 
-  -- the rows of two lists of branches stand one after the other
+  -- the rows of two lists of branches follow one another
   pub spread_append : (ls bs : List (Subtree T)) → spread (ls ++ bs) ≡ spread ls ++ spread bs
   spread_append [] bs = refl
   spread_append (s ∷ ls) bs =

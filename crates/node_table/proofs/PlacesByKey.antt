@@ -15,7 +15,7 @@ use Rattle.romfs_sets.specs.Once.{IsOnce}
 use Rattle.romfs_sets.proofs.Keyed.{below_or_at}
 use Rattle.node_table.specs.Firsts.{ArePlacesByKey, AreThemselves, IsFirstOf, AreFirsts}
 
--- of the first keys, those that may stand at other places too are put with their places
+-- the first keys that may also be at other places are put with their places
 pub record Collecting (keys : List ℕ) (by_key : List (ℕ × ℕ)) (i : ℕ) : Type 0 where
   pub own : All (λ keyed. (keyed.1 < i) × (slice_index keys keyed.1 ≡ keyed.0)) by_key
   pub every : (k : ℕ) → k < i → Contains by_key (slice_index keys k, k) ⊎ IsOnce keys k
@@ -31,7 +31,7 @@ further : (keys : List ℕ) (by_key : List (ℕ × ℕ)) (i : ℕ) → All (λ k
     → All (λ keyed. (keyed.1 < i + 1) × (slice_index keys keyed.1 ≡ keyed.0)) by_key
 further keys by_key i own k d l = let o = own k d l in (let m = o.0 in omega arith, o.1)
 
--- a key that stands once is passed over
+-- a key that occurs once is passed over
 pub key_passed_over : (keys : List ℕ) (by_key : List (ℕ × ℕ)) (i : ℕ) → Collecting keys by_key i → IsOnce keys i
     → Collecting keys by_key (i + 1)
 key_passed_over keys by_key i s o = record {
@@ -119,11 +119,11 @@ module _ (by_key : List (ℕ × ℕ)) (r : IsSorted (λ x y. ordering_then (nat_
   ordered i j d l m = let n : i + (j - i) ≡ j = omega arith in subst (λ n. Before (get_or by_key i d) (get_or by_key n d)) n
       (far i (j - i) d (omega arith))
 
--- the key and the place that stand at i
+-- the key and the place at i
 abbrev pub keyed_at : List (ℕ × ℕ) → ℕ → ℕ × ℕ
 keyed_at by_key i = get_or by_key i (0, 0)
 
--- the place k stands from i on, so that the first place of its key is still to be told
+-- the place k is at i or after it, so the first place of its key is still to be set
 abbrev pub IsWaiting : List ℕ → List (ℕ × ℕ) → ℕ → ℕ → Type 0
 IsWaiting keys by_key i k = (j : ℕ) × (i ≤ j) × (j < length by_key) × (keyed_at by_key j ≡ (slice_index keys k, k))
 
@@ -135,7 +135,7 @@ pub record Filling (keys : List ℕ) (by_key : List (ℕ × ℕ)) (firsts : List
   pub head : 0 < i → IsFirstOf keys group.0 group.1
   pub last : 0 < i → (keyed_at by_key (i - 1)).0 ≡ group.0
 
--- at first the keys that stand once have their own place, and the others wait
+-- at first the keys that occur once have their own place, and the others wait
 pub none_filled : (keys : List ℕ) (by_key : List (ℕ × ℕ)) (firsts : List ℕ) (group : ℕ × ℕ) → ArePlacesByKey keys by_key
     → AreThemselves (length keys) firsts → Filling keys by_key firsts group 0
 none_filled keys by_key firsts group s t = record {
@@ -172,7 +172,7 @@ module _ (keys : List ℕ) (by_key : List (ℕ × ℕ)) (firsts : List ℕ) (gro
   own : slice_index keys (keyed_at by_key i).1 ≡ (keyed_at by_key i).0
   own = (f.sorted.own i (0, 0) lt).1
 
-  -- where the key is not that of the one before, the place is the first with its key
+  -- if the key is not that of the one before, the place is the first with its key
   is_first : (i ≡ 0) ⊎ ((keyed_at by_key i).0 ≢ group.0) → IsFirstOf keys (keyed_at by_key i).0 (keyed_at by_key i).1
   is_first n = record {
     within = (f.sorted.own i (0, 0) lt).0;
@@ -253,7 +253,7 @@ module _ (keys : List ℕ) (by_key : List (ℕ × ℕ)) (firsts : List ℕ) (gro
   key_begins group' firsts' g set n = told group' firsts' (ap (λ (x : ℕ × ℕ). x.0) g) (subst (λ (x : ℕ × ℕ). IsFirstOf keys x.0 x.1)
       (sym g) (is_first n)) set
 
--- past the last one each place has the first place with its key
+-- after the last one each place has the first place with its key
 pub all_told : (keys : List ℕ) (by_key : List (ℕ × ℕ)) (firsts : List ℕ) (group : ℕ × ℕ) (i : ℕ) → length by_key ≤ i
     → Filling keys by_key firsts group i → AreFirsts keys firsts
 all_told keys by_key firsts group i l f = record { level = f.level; each = λ k m. one k (f.done k m) }

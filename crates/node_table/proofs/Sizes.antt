@@ -1,6 +1,5 @@
--- How many rows stand below a path, and so how large a branch is. A located branch has all rows
--- that begin with its path, and no others (rows_below): so two branches at one place agree in value
--- and in size, and a branch ends within the rows.
+-- How many rows are below a path, and so how large a branch is. A located branch has all rows that begin with its path, and no others
+-- (rows_below): so two branches at one place agree in value and in size, and a branch ends within the rows.
 use Rattle.std.proofs.Common.{◌≡◌, ◌∙◌, sym, ap, ℕ, ◌+◌, ◌≤◌, [], ◌∷◌, ◌++◌, length, refl, arith, length-append, true, Some}
 use Rattle.std.specs.Prelude.{slice_get}
 use Rattle.std.proofs.lemmas.List.{append-nil}
@@ -39,7 +38,7 @@ rows_below rows j s above l =
     sums : (a b c : ℕ) → a ≡ 0 → b ≡ length (whole s) → c ≡ 0 → a + b + c ≡ length (whole s)
     sums a b c e f g = omega arith
 
--- branches that stand at one place have as many rows below them, and one value
+-- branches at one place have as many rows below them, and one value
 module _ (rows : Rows Entry) (j : ℕ) (s s' : Subtree Entry) (above above' : Entry) (l : IsLocated rows j s above)
     (l' : IsLocated rows j s' above') where
   tops : (a b : Path × Entry) → slice_get rows j ≡ Some a → slice_get rows j ≡ Some b → a ≡ b
@@ -48,11 +47,11 @@ module _ (rows : Rows Entry) (j : ℕ) (s s' : Subtree Entry) (above above' : En
   rows_are : (top top' : Path × Entry) → top ≡ (l.top ++ [], s.value) → top' ≡ (l'.top ++ [], s'.value) → top ≡ top'
   rows_are top top' e f = tops top top' (row_at rows j s above l ∙ ap Some (sym e)) (row_at rows j s' above' l' ∙ ap Some (sym f))
 
-  -- two branches that stand at one place have one value
+  -- two branches at one place have one value
   pub same_value : s.value ≡ s'.value
   same_value = ap (λ (r : Path × Entry). r.1) (rows_are (l.top ++ [], s.value) (l'.top ++ [], s'.value) refl refl)
 
-  -- two branches that stand at one place have as many rows
+  -- two branches at one place have as many rows
   pub same_size : length (whole s) ≡ length (whole s')
   same_size =
       let top = sym (append-nil l.top) ∙ ap (λ (r : Path × Entry). r.0) (rows_are (l.top ++ [], s.value) (l'.top ++ [], s'.value) refl refl)

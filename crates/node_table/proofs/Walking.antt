@@ -1,7 +1,6 @@
--- A walk over a branch and all below it. Walking is the loop over the children: it begins when the
--- branch is put down, goes on by the walk over one child, which child_located places among the
--- rows, and ends when the branch's size is written. Where the branches above stand is said among all
--- visits, of which there are more and more (below_more).
+-- A walk over a branch and everything below it. Walking is the loop over the children: it begins when the branch is added, continues by the
+-- walk over one child, which child_located places among the rows, and ends when the branch's size is written. The places of parents are
+-- given among all visits, of which there are more and more (below_more).
 use Rattle.std.proofs.Common.{◌≡◌, ◌∙◌, sym, ap, subst, ℕ, zero, suc, ◌+◌, ◌-◌, ◌<◌, ◌≤◌, inl, inr, List, [], ◌∷◌, ◌++◌, length, take, drop, get_or, refl, arith, append_assoc, length-append, Some}
 use Rattle.std.specs.Prelude.{slice_get, slice_index, slice_set, map}
 use Rattle.std.proofs.lemmas.List.{get_or_append_left, get_or-append-add, length-map, map-append, set_at, take_all}
@@ -12,7 +11,7 @@ use Rattle.node_table.proofs.Lists.{get_front, get_end, get_append, take_one_mor
 use Rattle.node_table.proofs.Paths.{spread_append, child_located}
 
 module _ {T : Type 0} where
-  -- a list is what stands before a child, the child, and what stands after it
+  -- a list is the part before a child, the child, and the part after it
   pub parted : (cs : List (Subtree T)) (i : ℕ) (c : Subtree T) → i < length cs → c ≡ get_or cs i c → cs ≡ take i cs ++ c ∷ drop (suc i) cs
   parted [] i c l e = absurd (omega arith)
   parted (x ∷ cs) zero c l e = ap (λ y. y ∷ cs) (sym e)
@@ -73,7 +72,7 @@ module _ {T : Type 0} where
     pub sizes_are : now.sizes ≡ old.sizes ++ 0 ∷ map visit_size rest
     pub sizes_level : length old.sizes ≡ length old.visits
 
-  -- with the branch put down, and a size of 0 for it, no child is walked over
+  -- with the branch added, and a size of 0 for it, no child is walked
   pub walk_begun : (branch : Visit T) (place : ℕ) (cs : List (Subtree T)) (old now : Walk T) → place ≤ length old.visits
       → length old.sizes ≡ length old.visits → now.visits ≡ old.visits ++ branch ∷ [] → now.above ≡ old.above ++ place ∷ []
       → now.sizes ≡ old.sizes ++ 0 ∷ [] → Walking branch.now place cs old now 0
@@ -100,7 +99,7 @@ module _ {T : Type 0} where
           (subst (λ n. IsBelow rows n branch.now now.visits place) (omega arith) b)
       one rows j b (suc k) visit f = absurd (cc)
 
-  -- the branch stands where it was put
+  -- the branch is where it was put
   pub stands : (branch : Subtree T) (place : ℕ) (cs : List (Subtree T)) (old now : Walk T) (i : ℕ) → Walking branch place cs old now i
       → StandsAt now.visits (length old.visits) branch.value
   stands branch place cs old now i w = record {
@@ -187,7 +186,7 @@ module _ {T : Type 0} where
           let q = length-append (prefixed c.name c.below) [] in
           omega arith
 
-  -- past the last child, and with its size written, all of the branch is walked over
+  -- after the last child, and with its size written, the entire branch is walked
   pub walk_ended : (branch : Subtree T) (place : ℕ) (cs : List (Subtree T)) (old now : Walk T) (sizes : List ℕ) (i at size : ℕ)
       → branch.below ≡ spread cs → length cs ≤ i → at ≡ length old.visits → size ≡ length now.visits - at
       → sizes ≡ slice_set now.sizes at size → Walking branch place cs old now i

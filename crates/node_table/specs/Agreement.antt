@@ -57,7 +57,7 @@ AgreeWithSomeListing layers tell above first starts paths =
     (entries : List Listed)
     × AgreeWithListing (stacked layers entries) tell above first starts paths
 
--- the first branches of all places agree with a listing, and are where starts say
+-- the first branches of all places agree with a listing, and are at the positions in starts
 abbrev pub StandAndAgree : List (List ℕ) → Walk Entry → List ℕ → List ℕ → List ℕ → Type 0
 StandAndAgree layers walk starts paths numbers =
     (first : List (Visit Entry))
@@ -65,7 +65,8 @@ StandAndAgree layers walk starts paths numbers =
     first starts paths
     × StandAtStarts walk numbers first starts
 
--- nodes, and what is held of directories, make a table of the layers, once the nodes are completed
+-- nodes, and what is kept about directories, make a table of the layers, once the nodes are
+-- completed
 abbrev pub AreMade : List (List ℕ) → List Node → HeldDirectories → Type 0
 AreMade layers nodes directories =
     (entries : List Listed) × IsListing layers entries

@@ -1,4 +1,4 @@
--- Nodes and rows made from branches with numbers.
+-- Nodes and rows, made from branches with numbers.
 use Rattle.std.specs.Prelude.{◌≡◌, ℕ, ◌+◌, ◌-◌, ◌^◌, ◌<◌, ◌≤◌, List, [], ◌∷◌, ◌++◌, length, map, min, count_by, slice_get, slice_index, Some, ⊤}
 use Rattle.std.specs.Bool.{MatchBool}
 use Rattle.romfs_format.specs.Fields.{exec, spec}
@@ -41,7 +41,7 @@ pub record HasNumberAndSize (tell : Place → ℕ) (numbers sizes : List ℕ) (a
   pub size_is : slice_index sizes at ≡ length (whole c)
   pub ends : at + length (whole c) ≤ length sizes
 
--- branches are from this place on, each after the one before it and all below that
+-- branches are from this place on, each after the one before it and everything below that
 abbrev pub AreFollowing : (Place → ℕ) → List ℕ → List ℕ → ℕ → List (Subtree Entry) → Type 0
 AreFollowing tell numbers sizes at [] = ⊤
 AreFollowing tell numbers sizes at (c ∷ cs) =
@@ -64,7 +64,7 @@ pub record HasAbove (numbers above : List ℕ) (at : ℕ) : Type 0 where
   pub placed : at < length above
   pub within : slice_index above at < length numbers
 
--- the first branches are where starts say, with numbers of their parents and children at hand
+-- the first branches are at the positions in starts, with numbers of their parents and children
 pub record StandAtStarts (walk : Walk Entry) (numbers : List ℕ) (first : List (Visit Entry))
     (starts : List ℕ) : Type 0 where
   pub level : length starts ≡ length first
@@ -76,28 +76,28 @@ pub record StandAtStarts (walk : Walk Entry) (numbers : List ℕ) (first : List 
       → HasChildrenAfter (number_among walk.visits) numbers walk.sizes (slice_index starts k)
       visit.now
 
--- the header at a branch's place is one that the place's image gives, and the branch says what it
--- says
+-- the header at a branch's place is one that the place's image gives, and the branch says what the
+-- header says
 pub record HasGivenHeader (layers : List (List ℕ)) (branch : Subtree Entry) : Type 0 where
   pub image : List ℕ
   pub is : slice_get layers branch.value.place.layer ≡ Some image
   pub given : IsGiven image (head_of image branch.value.place.header)
   pub is_read : IsReadIn image branch.value
 
--- the node holds what the header says about the kind's data, permissions and device
+-- the node has what the header says about the kind's data, permissions and device
 pub record IsReadFrom (image : List ℕ) (header : ℕ) (node : Node) : Type 0 where
   pub data_is : IsDataPart image header node.part
   pub exec_is : node.exec ≡ exec image header
   pub spec_is : node.rdev ≡ spec image header
 
--- the node is the branch's, and holds what the header at the branch's place says
+-- the node is the branch's, and has what the header at the branch's place says
 pub record IsReadOf (layers : List (List ℕ)) (branch : Subtree Entry) (node : Node) : Type 0 where
   pub kind_is : node.kind ≡ branch.value.kind
   pub place_is : node.place ≡ branch.value.place
   pub read : (image : List ℕ) → slice_get layers node.place.layer ≡ Some image
       → IsReadFrom image node.place.header node
 
--- the directory that a branch with these children is: its rows are added at the end, and their keys
+-- the directory of a branch with these children: its rows are added at the end, and their keys
 pub record IsMade (tell : Place → ℕ) (above : ℕ) (cs : List (Subtree Entry))
     (old new : HeldDirectories) (directory : Directory) : Type 0 where
   pub parent_is : directory.parent ≡ above
@@ -117,7 +117,7 @@ pub record AddsDirectory {A : Type 0} (tell : Place → ℕ) (first : First A)
   pub made : IsMade tell first.parent children old new directory
   pub count_is : n ≡ count_directories children
 
--- a directory is added, which is linked by its name, its own dot and the directories in it
+-- a directory is added, which is linked by its name, its own . and the directories in it
 pub record AddsLinked {A : Type 0} (tell : Place → ℕ) (first : First A) (nlink : ℕ)
     (old new : HeldDirectories) : Type 0 where
   pub count : ℕ
@@ -129,7 +129,7 @@ pub record AddsNothing (paths nlink : ℕ) (old new : HeldDirectories) : Type 0 
   pub same : new ≡ old
   pub nlink_is : nlink ≡ paths
 
--- what is added for a first branch that is a directory, or is none
+-- what is added for a first branch, whether or not it is a directory
 abbrev pub AddsByKind : {A : Type 0} → (Place → ℕ) → First A → ℕ → HeldDirectories
     → HeldDirectories → Type 0
 AddsByKind tell first nlink old new =
@@ -143,7 +143,7 @@ pub record AddsNode {A : Type 0} (layers : List (List ℕ)) (tell : Place → �
   pub directory_is : node.directory ≡ length old.all
   pub adds : AddsByKind tell first node.nlink old new
 
--- the node with what its kind makes of that
+-- the node with the mode and device number that its kind determines
 abbrev pub completed : Node → Node
 completed node = record node {
   mode = mode_of node.kind node.exec;

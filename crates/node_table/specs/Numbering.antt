@@ -18,7 +18,7 @@ place_key q = q.layer * 0x100000000 + q.header
 abbrev pub key_of : Visit Entry → ℕ
 key_of visit = place_key visit.now.value.place
 
--- a number of paths and one more, held at the greatest 32-bit number
+-- a number of paths plus one, at most the maximum of 32 bits
 abbrev pub one_more : ℕ → ℕ
 one_more n = min (n + 1) (2 ^ 32 - 1)
 
@@ -68,7 +68,7 @@ pub record IsNumbered (visits : List (Visit Entry)) (i : ℕ) (first : List (Vis
   pub known : (k : ℕ) (visit : Visit Entry) → k < i → slice_get visits k ≡ Some visit
       → number_of (seen visits i) (visit_place visit) ≡ Some (slice_index numbers k)
 
--- all places are numbered, by what some branches are the first of
+-- all places are numbered, by a list of their first branches
 abbrev pub AreNumbered : List (Visit Entry) → List ℕ → List ℕ → List ℕ → Type 0
 AreNumbered visits starts paths numbers =
     (first : List (Visit Entry)) × IsNumbered visits (length visits) first starts paths numbers
@@ -88,7 +88,7 @@ numbers_apart count = record {
   numbers = map (λ k. k + 1) (range_with_len 0 count);
 }
 
--- those that are held
+-- those that the code keeps
 abbrev pub numbering_of : {A : Type 0} → Form A → Numbering
 numbering_of (Apart count) = numbers_apart count
 numbering_of (Shared starts paths numbers) = record {
@@ -97,6 +97,6 @@ numbering_of (Shared starts paths numbers) = record {
   numbers = numbers.items;
 }
 
--- the number of a place that visits have; 0 for another one
+-- the number of a place that visits have; 0 for any other place
 unfoldable pub number_among : List (Visit Entry) → Place → ℕ
 number_among visits q = unwrap_or (number_of (seen visits (length visits)) (placed q)) 0

@@ -8,7 +8,7 @@ use Rattle.stack_model.specs.Numbers.{same_name, same_path}
 use Rattle.layer_paths.specs.Rows.{Subtree, Rows, whole}
 use Rattle.node_table.specs.declared.walk.Walked.{Walked}
 
--- a branch, as it is lent
+-- a branch, borrowed
 abbrev pub Visit : Type 0 → Type 0
 Visit T = Bor (Subtree T)
 
@@ -40,7 +40,7 @@ pub record IsLocated {T : Type 0} (rows : Rows T) (j : ℕ) (branch : Subtree T)
   pub above_is : option_map (λ row. row.1)
       (find (λ row. same_path (take (length top - 1) top) row.0) rows) ≡ Some above
 
--- how many rows the branch has with all below it
+-- how many rows the branch has with everything below it
 abbrev pub visit_size : {T : Type 0} → Visit T → ℕ
 visit_size visit = length (whole visit.now)
 
@@ -57,8 +57,8 @@ pub record IsBelow {T : Type 0} (rows : Rows T) (j : ℕ) (branch : Subtree T)
   pub located : IsLocated rows j branch above
   pub stands : StandsAt visits place above
 
--- the visits are the branch and all below it, in the order of their rows, and the parent of each is
--- at its place among all
+-- the visits are the branch and everything below it, in the order of their rows, and the parent of
+-- each is at its place among all
 pub record AreWalked {T : Type 0} (branch : Subtree T) (place : ℕ) (all visits : List (Visit T))
     (above : List ℕ) : Type 0 where
   pub level : length visits ≡ length (whole branch)
@@ -66,14 +66,14 @@ pub record AreWalked {T : Type 0} (branch : Subtree T) (place : ℕ) (all visits
   pub each : (rows : Rows T) (j : ℕ) → IsBelow rows j branch all place → (k : ℕ) (visit : Visit T)
       → slice_get visits k ≡ Some visit → IsBelow rows (j + k) visit.now all (slice_index above k)
 
--- branches in the order of their paths, the place of each parent, and the size of each with all
--- below it
+-- branches in the order of their paths, the place of each parent, and the size of each with
+-- everything below it
 pub record Walk (T : Type 0) : Type 0 where
   pub visits : List (Visit T)
   pub above : List ℕ
   pub sizes : List ℕ
 
--- those that the code holds
+-- those that the code keeps
 abbrev pub walk_of : {T A : Type 0} → Walked T A → Walk T
 walk_of walked = record {
   visits = walked.visits.items;
@@ -85,7 +85,7 @@ walk_of walked = record {
 abbrev pub no_walk : {T : Type 0} → Walk T
 no_walk = record { visits = []; above = []; sizes = [] }
 
--- a branch and all below it are added at the end
+-- a branch and everything below it are added at the end
 pub record AddsWalk {T : Type 0} (branch : Subtree T) (place : ℕ) (old new : Walk T)
     : Type 0 where
   pub visits : List (Visit T)

@@ -66,7 +66,8 @@ pub(crate) fn make<A: Allocator + Copy>(
     Ok(TableParts { nodes, directories })
 }
 
-// Makes the node of a first branch, before it is completed, and adds what is held of a directory.
+// Makes the node of a first branch, before it is completed, and adds what is kept about a
+// directory.
 fn add_node<A: Allocator + Copy>(
     alloc: A,
     images: &[ImageView<'_>],
@@ -134,8 +135,7 @@ fn add_by_kind<A: Allocator + Copy>(
     }
 }
 
-// Adds the directory that a first branch is, its rows and their keys, and counts the directories in
-// it.
+// Adds the directory of a first branch, its rows and their keys, and counts the directories in it.
 fn add_directory<A: Allocator + Copy>(
     alloc: A,
     walk: &Walked<'_, Entry, A>,

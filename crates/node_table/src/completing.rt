@@ -12,7 +12,7 @@ use rayon::prelude::*;
 use romfs_reader::{ImageView, Kind};
 use std::thread::Threads;
 
-/// Fewer nodes than this are completed by the caller alone, since a thread costs more.
+/// With fewer nodes than this, the caller completes them alone: a thread costs more.
 const MANY: usize = 0x2_0000;
 
 // Completes all nodes, in several threads if there are many.
@@ -61,7 +61,7 @@ fn mode_of(kind: Kind, exec: bool) -> u16
     }
 }
 
-// The numbers of a device, as the kernel's new_encode_dev lays them.
+// The numbers of a device, as the kernel's new_encode_dev encodes them.
 fn rdev_of(kind: Kind, spec: u32) -> u32
     ensures { result ≡ rdev_of kind spec }
 {
@@ -75,7 +75,7 @@ fn rdev_of(kind: Kind, spec: u32) -> u32
     }
 }
 
-// Makes the mode and the device numbers of what the header said.
+// Sets the mode and the device numbers from what the header said.
 fn complete(node: &mut Node)
     ensures { node.new ≡ completed node.old }
 {
@@ -83,7 +83,7 @@ fn complete(node: &mut Node)
     node.rdev = rdev_of(node.kind, node.rdev);
 }
 
-// The same, one after another.
+// The same, one node after another.
 fn complete_each(nodes: &mut [Node])
     ensures { nodes.new ≡ map completed nodes.old }
 {

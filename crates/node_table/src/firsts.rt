@@ -8,7 +8,7 @@ ghost use Rattle.node_table.specs.Firsts.{ArePlacesByKey, AreFirsts, AreThemselv
 use romfs_sets::seen_once;
 use std::alloc::{AllocError, Allocator};
 
-// For each place of a list the first place with the same key. It takes n log n steps.
+// For each place of a list, the first place with the same key. It takes n log n steps.
 pub(crate) fn firsts_of<A: Allocator + Copy>(
     alloc: A,
     keys: &[u64],
@@ -48,7 +48,7 @@ fn places_by_key<A: Allocator + Copy>(
     Ok(by_key)
 }
 
-// The places of a list of this length, each for itself.
+// The places of a list of this length, each as its own first.
 fn themselves<A: Allocator + Copy>(alloc: A, len: usize) -> Result<Vec<usize, A>, AllocError>
     ensures { IfOk result (λ places. AreThemselves len places.items) }
 {

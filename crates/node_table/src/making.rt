@@ -1,4 +1,4 @@
-//! A table made of a tree.
+//! A table made from a tree.
 
 ghost use Rattle.std.specs.Prelude.{◌≡◌, ◌≤◌, length, IfOk};
 ghost use Rattle.std.specs.List.{AllByRecursion};
@@ -19,7 +19,7 @@ use romfs_reader::{Image, ImageView, views_of};
 use std::alloc::{AllocError, Allocator};
 use std::thread::Threads;
 
-/// What is made of the tree of a stack.
+/// What is made from the tree of a stack.
 pub trait OfTree: Sized {
     /// The allocator.
     type Memory;
@@ -32,10 +32,10 @@ pub trait OfTree: Sized {
 
     ghost use Rattle.std.specs.Thread.{IsSync};
 
-    // Holds of a tree and the images whose tree it is.
+    // Holds for a tree and the images that it is the tree of.
     ghost fits: { Self.Tree → Self.Images → Type 0 };
 
-    /// What is made of this tree and these images.
+    /// What is made from this tree and these images.
     fn of<R: Threads + Sync>(
         rt: &R,
         alloc: Self::Memory,
@@ -62,7 +62,7 @@ impl<A: Allocator + Copy> OfTree for Table<A> {
     ghost fits = { λ tree images.
         IsTreeOf 0 (bytes_of images.items) tree × (length images.items ≤ MAX_LAYERS) };
 
-    /// The table of a stack of images, from its tree, as [`table_of_layers`] makes it where all
+    /// The table of a stack of images, from its tree, as [`table_of_layers`] makes it if everything
     /// belongs to the superuser.
     fn of<R: Threads + Sync>(
         rt: &R,
@@ -81,12 +81,12 @@ impl<A: Allocator + Copy> OfTree for Table<A> {
 }
 
 /// The table of a stack of images, from its tree. The images are the layers, the lowest first. Each
-/// layer's rows say of their nodes whose they are, when they were changed and the bits of their
-/// modes; all that has no row belongs to an owner.
+/// layer's rows give the owners of its nodes, when they were changed and the bits of their modes;
+/// everything without a row belongs to the given owner.
 ///
-/// It takes n log n steps in the paths that the stack shows; a row is sought in as many steps as
-/// the number of its layer's rows has binary digits. Attributes are worked out in several threads
-/// where there are many. An error comes only if memory was refused.
+/// It takes n log n steps in the paths that the stack shows; a row is searched for in as many steps
+/// as the number of its layer's rows has binary digits. If there are many nodes, several threads
+/// complete them. An error is returned only if memory is refused.
 pub fn table_of_layers<R: Threads + Sync, A: Allocator + Copy>(
     rt: &R,
     alloc: A,
@@ -101,7 +101,7 @@ pub fn table_of_layers<R: Threads + Sync, A: Allocator + Copy>(
     ensures whole { IfOk result (λ table. table.whole ≡ all_whole layers.items) }
 {
     let (blocks, parts) = read_all(alloc, &tree, &layers)?;
-    // what else a table holds takes the memory of the tree
+    // the other parts of a table take the memory of the tree
     drop(tree);
     let TableParts {
         mut nodes,
@@ -111,7 +111,7 @@ pub fn table_of_layers<R: Threads + Sync, A: Allocator + Copy>(
     Table::of_parts(alloc, layers, nodes, directories, blocks, attributes)
 }
 
-// The blocks of images, and of the tree of their stack what `parts_of` makes.
+// The blocks of images, and what `parts_of` makes from the tree of their stack.
 fn read_all<A: Allocator + Copy>(
     alloc: A,
     tree: &Tree<A>,

@@ -1,7 +1,7 @@
 //! Numbers of places, in the order of their first path.
 //!
-//! Mostly each branch has a place of its own. Then its position gives its number, and no lists are
-//! held.
+//! Usually each branch has a place of its own. Then its position gives its number, and no lists are
+//! kept.
 
 ghost use Rattle.std.specs.Prelude.{◌≡◌, ◌<◌, ◌^◌, length, slice_index, slice_set, IfOk, IsTrue};
 ghost use Rattle.node_table.specs.Firsts.{AreFirsts, AreThemselves};
@@ -12,15 +12,15 @@ use layer_paths::{Branch, Entry, Place};
 use std::alloc::{AllocError, Allocator};
 use std::marker::Model;
 
-/// The places of branches, numbered from 1 in the order of their first branch. A clause sees three
-/// lists: the position of each place's first branch among all branches; how many branches have the
-/// place, capped at the greatest number of its type; and the number of each branch's place.
+/// The places of branches, numbered from 1 in the order of their first branch. A contract sees
+/// three lists: the position of each place's first branch among all branches; how many branches
+/// have the place, capped at the maximum of its type; and the number of each branch's place.
 #[derive(Drop)]
 pub(crate) struct Numbered<A: Allocator> {
     form: Form<A>,
 }
 
-/// How numbers are held.
+/// How numbers are stored.
 #[derive(Drop)]
 pub(crate) enum Form<A: Allocator> {
     /// This many branches, each with a place of its own.
@@ -123,7 +123,7 @@ fn number_shared<A: Allocator + Copy>(
 {
     let mut starts = Vec::with_capacity(alloc, visits.len())?;
     let mut paths = Vec::with_capacity(alloc, visits.len())?;
-    // each key gives way to the number of its place
+    // the number of its place replaces each key
     let mut numbers = keys;
     for at in 0..visits.len() {
         let before = firsts[at];
@@ -180,7 +180,7 @@ fn keys_of<A: Allocator + Copy>(
     Ok(keys)
 }
 
-// One path more at a place.
+// Counts one more path at a place.
 fn count_one<A: Allocator>(paths: &mut Vec<u32, A>, at: usize)
     requires { at < length paths.old.items }
     ensures { paths.new.items

@@ -10,14 +10,14 @@ use std::alloc::{AllocError, Allocator};
 #[derive(Drop)]
 pub(crate) struct Walked<'t, T: Copy + Drop, A: Allocator> {
     pub(crate) visits: Vec<&'t Branch<T, A>, A>,
-    /// The parent of each branch; the root is its own.
+    /// The parent of each branch; the root is its own parent.
     pub(crate) above: Vec<usize, A>,
-    /// How many branches each one is with all below it.
+    /// How many branches each one is, with all below it.
     pub(crate) sizes: Vec<usize, A>,
 }
 
 impl<'t, T: Copy + Drop, A: Allocator + Copy> Walked<'t, T, A> {
-    // No branch yet, with room for this many.
+    // No branches yet, with room for this many.
     pub(crate) fn with_room(alloc: A, room: usize) -> Result<Self, AllocError>
         ensures { IfOk result (λ walked. walk_of walked ≡ no_walk) }
     {
@@ -29,7 +29,7 @@ impl<'t, T: Copy + Drop, A: Allocator + Copy> Walked<'t, T, A> {
     }
 }
 
-// How many branches a branch is with all below it. No recursion goes deeper than the tree.
+// The number of branches from this one down, itself included. No recursion is deeper than the tree.
 pub(crate) fn count_branches<T: Copy + Drop, A: Allocator>(branch: &Branch<T, A>) -> usize {
     let mut count: usize = 1;
     for child in branch.children() {
@@ -43,8 +43,8 @@ pub(crate) fn count_branches<T: Copy + Drop, A: Allocator>(branch: &Branch<T, A>
     count
 }
 
-// The branch and all below it. No recursion goes deeper than the tree. The parent is at `place`, or
-// is this one.
+// The branch and everything below it. No recursion is deeper than the tree. The parent is at
+// `place`; the root is its own parent.
 pub(crate) fn walk<'t, T: Copy + Drop, A: Allocator>(
     branch: &'t Branch<T, A>,
     place: usize,

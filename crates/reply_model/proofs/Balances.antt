@@ -1,6 +1,5 @@
--- Streams of requests in parts: what one list of requests and then another is replied and moves is
--- that of the one and that of the other, the session carried along, and balances add up. `parts`
--- are the three laws.
+-- Streams of requests in parts: the replies to one list of requests and then another, and their moves, are those of the one and then those
+-- of the other, with the session carried along, and balances add up. `parts` are the three laws.
 use Rattle.std.proofs.Common.{◌≡◌, ◌∙◌, sym, ap, ℕ, List, [], ◌∷◌, ◌++◌, refl, append_assoc}
 use Rattle.std.specs.Prelude.{pos, ◌+ℤ◌, ◌==◌, if◌then◌else◌}
 use Rattle.std.proofs.Math.IntN.{+ℤ_assoc, +ℤ_idl}

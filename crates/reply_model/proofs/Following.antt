@@ -1,6 +1,5 @@
--- Replies to requests one after another, whatever may be a reply to one: those to some requests and
--- then those to others are replies to all (replies_on), and they are the ones that are defined
--- where each is (as_defined).
+-- Replies to requests one after another, whatever may be a reply to one: those to some requests and then those to others are replies to all
+-- (replies_on), and they are the defined ones if each is (as_defined).
 use Rattle.std.proofs.Common.{◌≡◌, ◌∙◌, sym, ap, subst, ℕ, List, [], ◌∷◌, ◌++◌, refl, append_assoc, append-nil}
 use Rattle.fuse_wire.specs.Requests.{Asked}
 use Rattle.reply_model.specs.declared.session.Session.{Session}
@@ -28,7 +27,7 @@ module _ (IsReply : Session → Asked → List ℕ → Type 0) where
     replies_on (session_after s x.op) xs ys rest more a b,
   )
 
-  -- where each is the reply that is defined, all are those
+  -- if each is the reply that is defined, all are those
   pub as_defined : (reply : Session → Asked → List ℕ)
       → ((s : Session) (q : Asked) (bytes : List ℕ) → IsReply s q bytes → bytes ≡ reply s q) → (s : Session) (qs : List Asked)
       (bytes : List ℕ) → AreReplies IsReply s qs bytes → bytes ≡ replies_by reply s qs
@@ -36,7 +35,7 @@ module _ (IsReply : Session → Asked → List ℕ → Type 0) where
   as_defined reply same s (q ∷ qs) bytes (one, rest, is, told, are) =
       is ∙ ap (λ v. v ++ rest) (same s q one told) ∙ ap (λ v. reply s q ++ v) (as_defined reply same (session_after s q.op) qs rest are)
 
-  -- requests whose defined reply may be told each have replies
+  -- requests, each with a possible defined reply, have replies
   pub some_replies : (reply : Session → Asked → List ℕ) → ((s : Session) (q : Asked) → IsReply s q (reply s q)) → (s : Session)
       (qs : List Asked) → AreReplies IsReply s qs (replies_by reply s qs)
   some_replies reply each s [] = refl

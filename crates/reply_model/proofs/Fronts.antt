@@ -1,6 +1,5 @@
--- As many rows as fit are a front of all of them, and fit. `front` is the main lemma, row by row: a
--- first row that fits stands before those that fit in the room that it leaves (`one_more`), and
--- where it does not fit there is none (`none`).
+-- As many rows as fit are a front of all of them, and fit. `front` is the main lemma, row by row: a first row that fits precedes those that
+-- fit in the room that it leaves (`one_more`), and if it does not fit there is none (`none`).
 use Rattle.std.proofs.Common.{◌≡◌, ap, ℕ, suc, ◌-◌, ◌<◌, ◌≤◌, List, [], ◌∷◌, length, Bool, true, false, cond, refl, arith, length-append}
 use Rattle.std.specs.Prelude.{nat_le}
 use Rattle.std.specs.List.{flat_map}

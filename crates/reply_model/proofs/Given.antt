@@ -1,6 +1,6 @@
--- What requests give, beside what they are answered. LOOKUP and READDIRPLUS give what they are
--- answered (`lookup_gives`, `readdirplus_gives`); all requests but these and the two that forget
--- move nothing (`others_move_nothing`), and none does in a fresh session.
+-- The lookups that requests give, beside their answers. LOOKUP and READDIRPLUS give those of their answers (`lookup_gives`,
+-- `readdirplus_gives`); all requests except these and the two that forget move nothing (`others_move_nothing`), and none does in a fresh
+-- session.
 use Rattle.std.proofs.Common.{◌≡◌, ◌∙◌, ap, ℕ, ◌⊎◌, inl, inr, List, [], ◌∷◌, ◌++◌, Bool, true, false, Option, Some, None, cond, refl}
 use Rattle.std.specs.Prelude.{is_some}
 use Rattle.std.specs.Option.{option_map_or}
@@ -30,7 +30,7 @@ module _ (stack : Stacked) where
   abbrev listing : ℕ → ℕ → ℕ → ℕ → Asked
   listing unique node offset size = record { unique = unique; node = node; op = at_node (readdirplus offset size) }
 
-  -- a LOOKUP gives one lookup of the node whose entry it is answered, or nothing
+  -- a LOOKUP gives one lookup of the node whose entry is in its reply, or none
   pub lookup_gives : (s : Session) (unique node : ℕ) (name : List ℕ) → GivesEntry stack s (looking unique node name)
   lookup_gives s unique node name = go (refusal stack s node (at_node (lookup name))) refl
     where
@@ -47,8 +47,7 @@ module _ (stack : Stacked) where
           let f = node_found stack s node (lookup name) e in
           inr (found e f.0 f.1 (looked_up stack.entries (agreement_of s).export f.0 name) refl)
 
-  -- a READDIRPLUS gives one lookup of the node of each row that it is answered but . and .., or
-  -- nothing
+  -- a READDIRPLUS gives one lookup of the node of each row in its reply except . and .., or none
   pub readdirplus_gives : (s : Session) (unique node offset size : ℕ) → GivesRows stack s (listing unique node offset size)
   readdirplus_gives s unique node offset size = go (refusal stack s node (at_node (readdirplus offset size))) refl
     where
@@ -95,7 +94,7 @@ module _ (stack : Stacked) where
   pub fresh_moves_nothing : (s : Session) (q : Asked) → is_fresh s ≡ true → moves stack s q ≡ []
   fresh_moves_nothing s q e = fresh_op s q.unique q.node q.op e
 
-  -- one request more that moves nothing leaves all balances
+  -- one more request that moves nothing leaves all balances unchanged
   pub balances_stay : (s : Session) (qs : List Asked) (q : Asked) (node : ℕ) → is_moving q.op ≡ false
       → balance node (moves_by (moves stack) s (qs ++ q ∷ []))
       ≡ balance node (moves_by (moves stack) s qs)
@@ -104,7 +103,7 @@ module _ (stack : Stacked) where
       ap (balance node) (moves-append (moves stack) s qs (q ∷ []) ∙ rw (others_move_nothing (session_at s qs) q e)
       (append-nil moved_by))
 
-  -- a DESTROY after other requests leaves all balances
+  -- a DESTROY after other requests leaves all balances unchanged
   pub destroy_leaves : (s : Session) (qs : List Asked) (unique node n : ℕ)
       → balance n (moves_by (moves stack) s
       (qs ++ record { unique = unique; node = node; op = done destroy } ∷ [])) ≡ balance n

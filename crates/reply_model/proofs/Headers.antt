@@ -1,5 +1,5 @@
--- A reply is empty, or its header says its length and its request: `headed` is the main lemma, off
--- the same of a reply with data (`with_data`) and of the reply of an error (`with_error`).
+-- A reply is empty, or its header has its length and its request: `headed` is the main lemma, which follows from the same for a reply with
+-- data (`with_data`) and for the reply with an error (`with_error`).
 use Rattle.std.proofs.Common.{◌≡◌, ◌∙◌, sym, ap, ℕ, ◌+◌, ◌-◌, ◌^◌, ◌⊎◌, inl, inr, List, [], ◌++◌, length, Bool, true, false, Option, Some, None, refl, arith, length-append}
 use Rattle.std.proofs.lemmas.List.{append-nil}
 use Rattle.std.specs.Option.{option_map_or}

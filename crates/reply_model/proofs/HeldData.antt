@@ -1,6 +1,6 @@
--- Data that are read from sources which show the layers' bytes are those that are defined: they stand in the layer where they begin
--- (window, data_there), so what may be told of them is right (shown_layers_told), and the reply if they are held (held_layers_told).
--- Under a digest each byte of data is one for which it vouches (data_vouched).
+-- Data that are read from sources which show the layers' bytes are those that are defined: they are in the layer where they begin (window,
+-- data_there), so possible replies are right (shown_layers_told), and are the defined ones if the layers are held (held_layers_told). Under
+-- a digest each byte of data is one for which the digest vouches (data_vouched).
 use Rattle.std.proofs.Common.{◌≤◌, ◌≡◌, ◌⊎◌, inl, inr, ◌∙◌, sym, ap, subst, ℕ, zero, suc, ◌+◌, ◌-◌, List, [], ◌∷◌, length, take, drop, map, Option, Some, None, refl, arith, lt_of_not-le}
 use Rattle.std.specs.Prelude.{slice_get, ⊤}
 use Rattle.std.specs.Option.{option_map, option_map_or, option_and_then}
@@ -35,7 +35,7 @@ use Rattle.reply_model.specs.Readings.{Sourced, sourced, reading_at, reading_fro
 own_length : (n : ℕ) (xs : List ℕ) → take n xs ≡ take (length (take n xs)) xs
 own_length n xs = sym (take_min n xs) ∙ ap (λ k. take k xs) (sym (length-take n xs))
 
--- some bytes behind others, of some bytes behind others, are a front part of what stands there
+-- a part of a part of some bytes is a part of these
 pub window : (m k n s : ℕ) (a : List ℕ) → (r : ℕ) × (take m (drop k (take n (drop s a))) ≡ take r (drop (s + k) a))
 window m k n s a = dite (dec_le k n)
     (λ less.
@@ -52,7 +52,7 @@ window m k n s a = dite (dec_le k n)
 pub stands : (xs ys : List ℕ) → ((r : ℕ) × (xs ≡ take r ys)) → xs ≡ take (length xs) ys
 stands xs ys (r, is) = is ∙ own_length r ys ∙ ap (λ l. take (length l) ys) (sym is)
 
--- the data of a place stand in its layer where they begin
+-- the data of a place are in its layer where they begin
 pub data_there : (layers : List (List ℕ)) (p : Place) (a : List ℕ) (offset size : ℕ) → layer_of layers p ≡ a
     → (r : ℕ) × (take size (drop offset (data_of layers p)) ≡ take r (drop (data_start layers p + offset) a))
 unfolding data_of
@@ -82,7 +82,7 @@ pub reading_is : (stack : Stacked) (sources : List Source) (q : Asked)
 reading_is stack [] q = sym (none_in stack q.node q.op)
 reading_is stack (source ∷ sources) q = refl
 
--- what the data of a reply are read from has, in this sense, bytes among which they stand
+-- the source of a reply's data has, in this sense, the bytes that they are part of
 abbrev pub AreFrom : (Source → List ℕ → Type 0) → Option Reading → List ℕ → Type 0
 AreFrom P None defined = ⊤
 AreFrom P (Some reading) defined =
@@ -110,12 +110,12 @@ each_held (x ∷ sources) (xs ∷ images) s (suc k) source is = each_held source
 each_held [] (xs ∷ images) s k source is = absurd s
 each_held (x ∷ sources) [] s k source is = absurd s
 
--- bytes that are held are so
+-- bytes that are held have this property
 pub are_held : (images : List (List ℕ)) → AreHeldBy (map held images) images
 are_held [] = tt
 are_held (xs ∷ images) = (record { shows = refl; whole = held_lacks xs }, are_held images)
 
--- and so are those under a digest, if the file and its tree are held
+-- and so have those under a digest, if the file and its tree are held
 pub honest_held : (s : Seal) (xs : List ℕ) → IsHonest s xs → Shows (sealed s) xs → Holds (sealed s) xs
 honest_held s xs h shows = record { shows = shows; whole = whole }
   where
@@ -143,7 +143,7 @@ module _ (P : Source → List ℕ → Type 0) (stack : Stacked) (sources : List 
   abbrev defined : Op → List ℕ
   defined op = reply stack s (record { unique = unique; node = node; op = op })
 
-  -- what a READ is replied stands in the layer where it is read
+  -- the answer to a READ is in the layer where it is read
   read_there : (offset size : ℕ) (p : Place) (a : List ℕ) → node_of stack.entries node ≡ Some p → slice_get stack.layers p.0 ≡ Some a
       → (o : Option Errno) → (d : List ℕ)
       → d ≡ option_map_or (error_reply unique) o (reply_with unique (answer stack (agreement_of s) node (at_node (read offset size))))
@@ -187,7 +187,7 @@ all_from P stack sources each s q =
     subst (λ (o : Option Reading). AreFrom P o (reply stack s q)) (sym (reading_is stack sources q))
     (op_from P stack sources each s q.unique q.node q.op)
 
--- what may be told from sources that show the layers is right
+-- a possible reply from sources that show the layers is right
 pub shown_layers_told : (stack : Stacked) (sources : List Source) → AreShown sources stack.layers → (s : Session) (q : Asked)
     (bytes : List ℕ) → IsReplyOver (sourced stack sources) s q bytes → IsRightOver (sourced stack sources) (reply stack s q) q bytes
 shown_layers_told stack sources shown s q bytes t =

@@ -1,6 +1,6 @@
--- What differs if a stream is served lastingly. First that the distinguished replies are different; then the replies of ready sessions,
--- from the few facts that a row depends on; then those of all sessions (`replies_last`), what is moved (`moves_stay`), and how sessions go
--- on.
+-- What differs in a lasting stream. First that the distinguished replies are different; then the replies of ready sessions, from the few
+-- facts that a row depends on; then those of all sessions (`replies_last`), the lookups that are moved (`moves_stay`), and how sessions
+-- continue.
 use Rattle.std.proofs.Common.{◌≡◌, ◌≢◌, ◌∙◌, sym, ap, ℕ, ◌-◌, ◌%◌, ◌^◌, List, [], ◌∷◌, ◌++◌, length, get_or, map, Bool, true, false, Option, Some, None, cond, refl}
 use Rattle.std.specs.Prelude.{bit_and, nat_lt, not, ◌&&◌, ◌||◌, ◌==◌, is_none, is_some}
 use Rattle.std.specs.Option.{option_map_or, option_to_list}
@@ -76,7 +76,7 @@ other_error : (unique : ℕ) (errno : Errno) → ((2 ^ 32 - errno_number errno) 
 unfolding error_reply u32 u64
 other_error unique errno n e = false≢true (sym n ∙ eq-eqb ((2 ^ 32 - errno_number errno) % 256) 254 (ap error_byte e))
 
--- the version alone is no terms: max_background is missing
+-- the version without terms is not the terms: max_background is missing
 abbrev background_byte : List ℕ → ℕ
 background_byte bytes = get_or bytes 32 0
 
@@ -93,7 +93,7 @@ version_no_terms unique lasting acls minor readahead flags = either (nat_lt mino
     either true e = false≢true (eq-eqb 0 12 (ap background_byte e))
     either false e = false≢true (eq-eqb 0 12 (ap background_byte e))
 
--- INIT in a fresh session, off whether the major version is later and whether the version is spoken
+-- INIT in a fresh session, by whether the major version is later and whether the version is supported
 abbrev begun : ℕ → Bool → Bool → Bool → Bool → ℕ → ℕ → ℕ → List ℕ
 begun unique lasting acls later spoken minor readahead flags =
     option_map_or (error_reply unique) (first_refusal (refuse_if (not (later || spoken)) EPROTO ∷ []))
@@ -107,7 +107,7 @@ begun_lasts unique acls true spoken minor readahead flags = stays _ _ _ (version
 begun_lasts unique acls false true minor readahead flags = turns _ _
 begun_lasts unique acls false false minor readahead flags = stays _ _ _ (error_no_data unique EPROTO _)
 
--- OPEN and OPENDIR of a node, off its kind
+-- OPEN and OPENDIR of a node, by its kind
 abbrev opened : ℕ → Bool → Kind → Bool → List ℕ
 opened unique no_open k writes =
     option_map_or (error_reply unique)
@@ -178,7 +178,7 @@ module _ (stack : Stacked) where
     abbrev lastingly : Agreement
     lastingly = agreement_of (LastingReady export acls no_open no_opendir)
 
-    -- a request about a node in a ready session, off the place that its number finds
+    -- a request about a node in a ready session, by the place that its number finds
     abbrev replied : Agreement → ℕ → NodeOp → Option Place → List ℕ
     replied agreed unique op o =
         option_map_or (error_reply unique) (first_refusal (option_map_or (refused_at stack agreed op) o (Some ESTALE) ∷ []))
@@ -252,7 +252,7 @@ module _ (stack : Stacked) where
   fresh_lasts unique node (done _) = refl
   fresh_lasts unique node _ = refl
 
-  -- a lasting session replies what the usual one does, but in the cases that `LastsAs` lists
+  -- a lasting session replies what the usual one does, except in the cases that `LastsAs` lists
   pub replies_last : (s : Session) (q : Asked) → (agreement_of s).lasting ≡ true
       → LastsAs (has_acls stack) (agreement_of s) q.unique q.op (reply stack (usual_of s) q) (reply stack s q)
   replies_last Fresh q e = absurd (cc)
@@ -267,7 +267,7 @@ module _ (stack : Stacked) where
   moves_stay LastingFresh q = fresh_moves_nothing stack LastingFresh q refl ∙ sym (fresh_moves_nothing stack Fresh q refl)
   moves_stay (LastingReady export acls no_open no_opendir) q = ready_moves export acls no_open no_opendir q.unique q.node q.op
 
--- sessions go on as the usual ones do
+-- sessions continue as the usual ones do
 begun_goes_on : (spoken export acls no_open no_opendir : Bool)
     → usual_of (cond spoken (LastingReady export acls no_open no_opendir) LastingFresh) ≡ cond spoken (Ready export acls) Fresh
 begun_goes_on true export acls no_open no_opendir = refl
@@ -277,7 +277,7 @@ usual_begun : (spoken export acls : Bool) → usual_of (cond spoken (Ready expor
 usual_begun true export acls = refl
 usual_begun false export acls = refl
 
--- a lasting session goes on, request by request, as the usual one in its place does
+-- a lasting session continues, request by request, as the usual one would
 pub session_goes_on : (s : Session) (op : Op) → usual_of (session_after s op) ≡ session_after (usual_of s) op
 session_goes_on Fresh (init major minor readahead flags) = usual_begun (is_spoken major minor) (has_export flags) (has_acl flags)
 session_goes_on Fresh _ = refl
@@ -301,7 +301,7 @@ module _ (stack : Stacked) where
       ∙ ap (λ v. moved (usual_of s) q ++ v)
       (moves_by_stay (session_after s q.op) qs ∙ ap (λ t. moves_by moved t qs) (session_goes_on s q.op))
 
-  -- a stream that is served lastingly leaves the balances that it leaves usually
+  -- a lasting stream leaves the usual balances
   pub balances_are_usual : (messages : List (List ℕ)) (node : ℕ)
       → balance_after stack LastingFresh messages node ≡ balance_after stack Fresh messages node
   balances_are_usual messages node = ap (balance node) (moves_by_stay LastingFresh (map asked messages))
@@ -310,5 +310,5 @@ module _ (stack : Stacked) where
 pub stay : LastingStayExamples
 stay = record { too_long = λ lasting b. b.elsewhere (other_error 2 ENAMETOOLONG refl); missing = λ lasting b. b.there refl }
 
--- what differs and what stays where a stream is served lastingly
+-- what differs and what stays in a lasting stream
 pub ruleset lasting = (replies_last, moves_stay, session_goes_on, balances_are_usual)

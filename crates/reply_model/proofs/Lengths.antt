@@ -47,7 +47,7 @@ use Rattle.reply_model.specs.Laws.{AreListed}
 use Rattle.reply_model.proofs.Xattrs.{short_value, short_names}
 use Rattle.reply_model.proofs.Headers.{headed}
 
--- INIT is answered 64 bytes at most
+-- the answer to INIT has at most 64 bytes
 short_init : (o : InitOut) → length (init_out o) ≤ 64
 short_init Version = let l = length-version in omega arith
 short_init (Terms lasting acls minor readahead flags) = either (nat_lt minor 23) (length-terms lasting acls minor readahead flags)
@@ -57,7 +57,7 @@ short_init (Terms lasting acls minor readahead flags) = either (nat_lt minor 23)
     either true e = omega arith
     either false e = omega arith
 
--- some first bytes are no more than asked
+-- some first bytes are no more than requested
 length-front : (n : ℕ) (xs : List ℕ) → length (take n xs) ≤ n
 length-front n xs = let e = length-take n xs in omega arith
 
@@ -65,7 +65,7 @@ length-front n xs = let e = length-take n xs in omega arith
 not_large : (n : ℕ) → is_too_large n ≡ false → n ≤ MAX_DATA_SIZE
 not_large n e = ltb-false MAX_DATA_SIZE n e
 
--- READLINK is answered for symbolic links alone
+-- only for symbolic links is READLINK answered
 is_link : (k : Kind) → unless_link k ≡ None → k ≡ SymLink
 is_link SymLink e = refl
 is_link _ e = absurd (cc)
@@ -163,7 +163,7 @@ module _ (bs : List (List ℕ)) (stack : Stacked) (sound : All (IsSound Usual) b
   short_answer x node statfs r = let l = length-statfs_out (blocks_all stack.layers) (length (nodes stack.entries)) in omega arith
   short_answer x node _ r = lit≤ tt
 
-  -- a reply has at most 1 MiB behind a header of 16 bytes
+  -- a reply has at most 1 MiB after a header of 16 bytes
   pub short : (s : Session) (q : Asked) → length (reply stack s q) ≤ MAX_REPLY_SIZE
   short s q = silent (is_silent q.op)
     where

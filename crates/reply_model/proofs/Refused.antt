@@ -1,5 +1,5 @@
--- What is known if nothing refuses a request: it is not refused by its op (`not_by_op`), and if it is about a node, that number is in
--- use (`node_found`). Before these, lists of refusals, none of which fits.
+-- What is known if nothing refuses a request: it is not refused by its operation (`not_by_op`), and if it is about a node, that number is
+-- in use (`node_found`). Before these, lists of refusals, none of which applies.
 use Rattle.std.proofs.Common.{◌≡◌, ℕ, List, [], ◌∷◌, Bool, true, false, Option, Some, None, cond, refl}
 use Rattle.std.specs.Option.{option_map_or}
 use Rattle.fuse_wire.specs.declared.errno.Errno.{Errno}
@@ -27,7 +27,7 @@ pub if_none : (b : Bool) (errno : Errno) → refuse_if b errno ≡ None → b �
 if_none true errno e = absurd (cc)
 if_none false errno e = refl
 
--- what is not refused whatever is asked is served, and not refused by what is asked
+-- without a refusal, the condition is false and the other refusal does not apply
 served : (b : Bool) (errno : Errno) (o : Option Errno) → cond b (Some errno) o ≡ None → (b ≡ false) × (o ≡ None)
 served true errno o e = absurd (cc)
 served false errno o e = (refl, e)
@@ -39,7 +39,7 @@ module _ (stack : Stacked) where
   not_by_itself s node op e =
       (both_none (refused_by_session (is_fresh s) op) (refused_by_itself stack (agreement_of s) node op) e).1
 
-  -- so it is not refused by what is asked
+  -- so it is not refused by its operation
   pub not_by_op : (s : Session) (node : ℕ) (op : Op) → refusal stack s node op ≡ None
       → refused_by_op stack (agreement_of s) node op ≡ None
   not_by_op s node op e =

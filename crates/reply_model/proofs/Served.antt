@@ -1,5 +1,5 @@
--- Requests for extended attributes: whether they are answered ENOSYS depends on the stack alone (served), and no reply is longer than the
--- size that was asked for (value_within, names_within).
+-- Requests for extended attributes: whether they get ENOSYS depends only on the stack (served), and no reply is longer than the requested
+-- size (value_within, names_within).
 use Rattle.std.proofs.Common.{◌≡◌, ◌≢◌, ◌∙◌, sym, ap, ℕ, ◌+◌, ◌≤◌, List, [], ◌∷◌, length, Bool, true, false, Option, Some, None, cond, refl, arith}
 use Rattle.std.specs.Prelude.{◌↔◌, not, ◌&&◌, ◌||◌, ◌==◌}
 use Rattle.std.specs.Option.{option_map_or}
@@ -24,7 +24,7 @@ use Rattle.reply_model.specs.Replies.{answer_at, answer, reply}
 use Rattle.reply_model.proofs.Refused.{node_found, not_by_op}
 use Rattle.reply_model.proofs.Xattrs.{sized_fits, value_fits}
 
--- such a request is no INIT
+-- such a request is not INIT
 pub no_init : (op : Op) → asks_xattrs op ≡ true → is_init op ≡ false
 no_init (at_node (getxattr size name)) e = refl
 no_init (at_node (listxattr size)) e = refl
@@ -36,7 +36,7 @@ no_init (malformed opcode) e = go (opcode == 22) (opcode == 23) refl refl e
     go false false f g h = absurd (cc)
 no_init _ e = absurd (cc)
 
--- no size is refused so
+-- no size is refused this way
 size_else : (size : ℕ) (bytes : List ℕ) → refused_size size bytes ≢ Some ENOSYS
 size_else size bytes e = go (not (size == 0) && _) e
   where
@@ -57,7 +57,7 @@ alone None = refl
 alone (Some errno) = refl
 
 module _ (stack : Stacked) where
-  -- where some node has an attribute, nothing of such a request is refused so
+  -- if some node has an attribute, no such request is refused this way
   else_served : (x : Agreement) (node : ℕ) (op : Op) → asks_xattrs op ≡ true → refused_by_op stack x node op ≢ Some ENOSYS
   else_served x node (at_node (getxattr size name)) e f = go (node_of stack.entries node) f
     where
@@ -73,7 +73,7 @@ module _ (stack : Stacked) where
   else_served x node (malformed opcode) e f = cc
   else_served x node _ e f = absurd (cc)
 
-  -- in a session that was begun they are answered ENOSYS exactly where no node has an attribute
+  -- in a session that has begun they get ENOSYS exactly if no node has an attribute
   pub served : (s : Session) (node : ℕ) (op : Op) → is_fresh s ≡ false → asks_xattrs op ≡ true
       → (refusal stack s node op ≡ Some ENOSYS) ↔ (has_xattrs stack ≡ false)
   served s node op f a = go (has_xattrs stack) refl
@@ -88,7 +88,7 @@ module _ (stack : Stacked) where
   abbrev asking : ℕ → ℕ → NodeOp → Asked
   asking unique node op = record { unique = unique; node = node; op = at_node op }
 
-  -- a reply is no longer than a size, if what is answered where nothing refuses is not
+  -- a reply is no longer than a size, if the answer is not, provided that nothing refuses the request
   within : (s : Session) (unique node size : ℕ) (op : NodeOp)
       → ((p : Place) → refused_at stack (agreement_of s) op p ≡ None → length (answer_at stack (agreement_of s) op p) ≤ size)
       → length (reply stack s (asking unique node op)) ≤ OUT_HEADER_SIZE + size

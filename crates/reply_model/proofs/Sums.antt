@@ -1,6 +1,6 @@
--- Balances, after one list of moves and another. The main lemma is `adds`: what the code writes at
--- a node's place is what one move of it does to all balances. `within_moved` says how far from 0
--- they are after. `weight_within` to `one_more_move` are the steps of a loop over moves.
+-- Balances, after one list of moves and another. The main lemma is `adds`: what the code writes at a node's index is what one move of it
+-- does to all balances. `within_moved` says how far from 0 they are after it. `weight_within` to `one_more_move` are the steps of a loop
+-- over moves.
 use Rattle.std.proofs.Common.{◌≡◌, ◌∙◌, sym, ap, subst, ℕ, ◌+◌, ◌<◌, ◌≤◌, ◌^◌, ◌==◌, ℤ, pos, ◌+ℤ◌, unsigned_abs, List, [], ◌∷◌, ◌++◌, length, take, drop, ◌≢◌, ◌⊎◌, inl, inr, set, get_or, Bool, true, false, cond, refl, arith, eq-eqb, FitsSigned, to_z, of_z, ◌-◌}
 use Rattle.std.specs.Int.{w128}
 use Rattle.std.proofs.lemmas.Int.{ints, fits_signed_from_abs, to_z-of_z}
@@ -22,7 +22,7 @@ balance_append node (x ∷ xs) ys = let e = balance_append node xs ys in omega (
 pub none_moved : (b : List ℤ) → IsMoved [] b b
 none_moved b = record { same = refl; each = λ i h. omega (arith, ints) }
 
--- one list of moves and then another are both, one behind the other
+-- one list of moves and then another are both, one after the other
 pub moved_on : (xs ys : List Move) (a b c : List ℤ) → IsMoved xs a b → IsMoved ys b c → IsMoved (xs ++ ys) a c
 moved_on xs ys a b c m n = record {
   same = n.same ∙ m.same;
@@ -87,7 +87,7 @@ weight_within xs i there =
     let h = ap weight (take-append-drop (i + 1) xs) in
     omega arith
 
--- where the move at an index is made after those before it, those before the next one are
+-- if the move at an index is made after those before it, those before the next one are
 pub one_more_move : (xs : List Move) (i : ℕ) (a b c : List ℤ) → i < length xs → IsMoved (take i xs) a b
     → IsMoved (get_or xs i nothing ∷ []) b c
     → IsMoved (take (i + 1) xs) a c

@@ -58,7 +58,7 @@ word_fits a p b =
     let b3 = at 3 in
     omega arith
 
--- what a row says, or the owner where there is none, fits its fields
+-- what a row says, or the owner if there is none, fits its fields
 record FitsRow (said : Option AttributeRow) (owner : Owner) (mode : ℕ) : Type 0 where
   seconds : option_map_or (λ (r : AttributeRow). r.seconds) said 0 < 2 ^ 64
   nanoseconds : option_map_or (λ (r : AttributeRow). r.nanoseconds) said 0 < 2 ^ 32
@@ -74,7 +74,7 @@ row_fits (Some r) owner mode l o f =
     let is = f r refl in
     record { seconds = is.seconds; nanoseconds = is.nanoseconds; mode_is = omega arith; uid = is.uid; gid = is.gid }
 
--- over layers of bytes, where rows and owner fit, the attributes of a place fit their fields, but
+-- over layers of bytes, if rows and owner fit, the attributes of a place fit their fields, but
 -- for its number
 pub attributes_fit : (stack : Stacked) (p : Place) → AreLayersOfBytes stack.layers → AreOwned stack
     → FitsFields (attr_of stack p)

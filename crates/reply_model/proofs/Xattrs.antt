@@ -1,5 +1,5 @@
 -- Extended attributes that a client gets: they are short if their list is one that a file may have (short_value, short_names); an answer
--- fits in the size (value_fits, names_fit); and a name is listed exactly if its value is answered (listed).
+-- fits in the size (value_fits, names_fit); and a name is listed exactly if GETXATTR answers its value (listed).
 use Rattle.std.proofs.Common.{◌≡◌, ◌≢◌, ◌∙◌, sym, ap, ℕ, ◌+◌, ◌≤◌, List, [], ◌∷◌, ◌++◌, length, Bool, true, false, Option, Some, None, cond, refl, arith, length-append}
 use Rattle.std.specs.Prelude.{◌↔◌, IsTrue, nat_lt, not, ◌&&◌, ◌||◌, ◌==◌, bytes_eq, is_some}
 use Rattle.std.specs.List.{list_all}
@@ -111,7 +111,7 @@ told_listed name (x ∷ xs) = go (bytes_eq x.name name) (is_acl_name x.name) ref
     go false true e f rest = rest
     go false false e f rest = rw e rest
 
--- a name is listed exactly if GETXATTR is answered how long its value is
+-- a name is listed exactly if GETXATTR answers the length of its value
 pub listed : (acls : Bool) (name : List ℕ) (xs : List Extended)
     → IsTrue (is_listed name (xattrs_told acls xs)) ↔ (refused_xattr acls 0 name xs ≡ None)
 listed true name xs = either (is_acl_name name) (value_of name xs) (listed_some name xs)

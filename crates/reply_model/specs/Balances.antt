@@ -4,20 +4,20 @@ use Rattle.std.specs.Prelude.{◌≡◌, ℕ, ◌+◌, ◌*◌, ◌<◌, ◌≤�
 use Rattle.reply_model.specs.declared.moves.Move.{Move}
 use Rattle.reply_model.specs.Moves.{balance}
 
--- how much is given and taken in all
+-- how many lookups are given and taken in all
 abbrev pub weight : List Move → ℕ
 weight [] = 0
 weight (m ∷ moves) = unsigned_abs m.amount + weight moves
 
--- moves have at most 64 bits, for each of this many bytes
+-- moves have at most 2^64 lookups for each of this many bytes
 abbrev pub IsLight : List Move → ℕ → Type 0
 IsLight moves bytes = weight moves ≤ 2 ^ 64 * bytes
 
--- the balance at a place; node n has the place n - 1
+-- the balance at an index; that of node n is at index n - 1
 abbrev pub balance_at : List ℤ → ℕ → ℤ
 balance_at balances place = get_or balances place (pos 0)
 
--- each node's balance rose by what the moves give it, less what they take
+-- each node's balance rose by what the moves give it, minus what they take
 pub record IsMoved (moves : List Move) (old new : List ℤ) : Type 0 where
   pub same : length new ≡ length old
   pub each : (i : ℕ) → i < length old → balance_at new i ≡ balance_at old i +ℤ balance (i + 1) moves

@@ -1,4 +1,4 @@
--- Worked examples: images and requests written out, and what they are answered.
+-- Worked examples: images and requests written out, and the answers to them.
 use Rattle.std.specs.Prelude.{◌≡◌, false, map, ℤ, pos, negsuc, ℕ, zero, suc, ◌+◌, ◌-◌, ◌%◌, ◌^◌, List, [], ◌∷◌, ◌++◌, length, take, drop, replicate, true, codes, Some}
 use Rattle.std.specs.List.{flat_map}
 use Rattle.byteorder.specs.Endian.{big_bytes}
@@ -24,7 +24,7 @@ use Rattle.reply_model.specs.Streams.{replies, balance_after}
 abbrev pub dump : List ℕ → List ℕ
 dump words = flat_map (λ word. big_bytes 4 word) words
 
--- the empty image: a root that holds . and .. alone
+-- the empty image: a root that holds only . and ..
 unfoldable pub empty_image : List ℕ
 empty_image = dump (
     0x2d726f6d ∷ 0x3166732d ∷ 0x00000060 ∷ 0x2b271d06 ∷ 0x76000000 ∷ 0x00000000 ∷ 0x00000000 ∷
@@ -103,7 +103,7 @@ init_in major minor readahead flags = u32 major ++ u32 minor ++ u32 readahead ++
 abbrev pub read_in : ℕ → ℕ → List ℕ
 read_in offset size = u64 0 ++ u64 offset ++ u32 size ++ zeros 20
 
--- the reply of an error: its number is given negated, as 32 bits
+-- the reply with an error: its number is negated, as 32 bits
 abbrev pub refused : ℕ → ℕ → List ℕ
 refused unique error = u32 16 ++ u32 error ++ u64 unique
 
@@ -196,7 +196,7 @@ older_init_reply = dump (
     0x01000000
     ∷ 0x0c000900 ∷ 0x00000200 ∷ [])
 
--- INIT: versions and terms, and what a session answers that is not begun
+-- INIT: versions and terms, and the answers of a session that has not begun
 pub record InitExamples : Type 0 where
   pub accepted : over_empty Fresh init_request ≡ init_reply
   pub newer : over_empty Fresh (request 26 1 0 (init_in 7 39 2097152 0x73fffffb ++ zeros 48))
@@ -229,7 +229,7 @@ pub record InitExamples : Type 0 where
   pub short : over_empty Fresh (request 26 1 0 (take 15 (init_in 7 31 131072 0x1)))
       ≡ refused 1 0xffffffea
 
--- when sessions begin and end, and that the accepted INIT alone says whether . and .. are looked up
+-- when sessions begin and end, and that only the accepted INIT says whether . and .. are looked up
 pub record SessionExamples : Type 0 where
   pub begins : session_after Fresh (init 7 31 131072 0x6001) ≡ Ready false false
   pub exports : session_after Fresh (init 7 12 0 0x10) ≡ Ready true false
@@ -324,7 +324,7 @@ x_entry_reply = dump (
     0x00000000 ∷ 0x00000000 ∷ 0x00000000 ∷ 0xa4810000 ∷ 0x01000000
     ∷ 0x00000000 ∷ 0x00000000 ∷ 0x00000000 ∷ 0x00100000 ∷ 0x00000000 ∷ [])
 
--- LOOKUP of an existing name, of some that are missing, too long or none, and in a file
+-- LOOKUP of an existing name, of names that are missing, too long or not valid, and in a file
 pub record LookupExamples : Type 0 where
   pub entry : over_sample (request 1 10 3 (codes "x" ++ zeros 1)) ≡ x_entry_reply
   pub unended : over_sample (request 1 2 1 (codes "x")) ≡ refused 2 0xffffffea
@@ -338,8 +338,8 @@ pub record LookupExamples : Type 0 where
   pub upper : over_sample (request 1 2 1 (codes ".." ++ zeros 1)) ≡ refused 2 0xfffffffe
   pub in_file : over_sample (request 1 2 2 (replicate 256 0x71 ++ zeros 1)) ≡ refused 2 0xffffffec
 
--- the sample image, of which x in the directory d has a row: mode 4711, user 33, group 42, and the
--- second 1,700,000,000 with 5 nanoseconds; all else belongs to user 1 and group 2
+-- the sample image with a row for x in the directory d: mode 4711, user 33, group 42, and the
+-- second 1,700,000,000 with 5 nanoseconds; everything else belongs to user 1 and group 2
 abbrev pub owned_stack : Stacked
 owned_stack = record {
   layers = sample_image ∷ [];
@@ -361,8 +361,8 @@ owned_stack = record {
 abbrev pub over_owned : List ℕ → List ℕ
 over_owned m = reply owned_stack (Ready false false) (asked m)
 
--- the entry of x in the directory d, with what its row says: three times the seconds, three times
--- the nanoseconds, mode, nlink, uid and gid
+-- the entry of x in the directory d, with the fields of its row: three times the seconds, three
+-- times the nanoseconds, mode, nlink, uid and gid
 abbrev pub owned_entry_reply : List ℕ
 owned_entry_reply = dump (
     0x90000000 ∷ 0x00000000 ∷ 0x0a000000 ∷ 0x00000000
@@ -373,8 +373,8 @@ owned_entry_reply = dump (
     ∷ 0x05000000 ∷ 0x05000000 ∷ 0x05000000 ∷ 0xc9890000 ∷ 0x01000000
     ∷ 0x21000000 ∷ 0x2a000000 ∷ 0x00000000 ∷ 0x00100000 ∷ 0x00000000 ∷ [])
 
--- a row's attributes in LOOKUP, GETATTR and READDIRPLUS, where the row of x has the type of a file;
--- the owner of what has no row; and all else as without rows
+-- a row's attributes in LOOKUP, GETATTR and READDIRPLUS, in which the row of x has the type of a
+-- file; the owner of everything without a row; and all else as without rows
 pub record OwnedExamples : Type 0 where
   pub entry : over_owned (request 1 10 3 (codes "x" ++ zeros 1)) ≡ owned_entry_reply
   pub attributes : drop 32 (over_owned (request 3 2 4 (zeros 16))) ≡ drop 56 owned_entry_reply
@@ -400,8 +400,8 @@ itself = codes "." ++ zeros 1
 abbrev pub two_dots : List ℕ
 two_dots = codes ".." ++ zeros 1
 
--- with EXPORT_SUPPORT the name . finds the node itself, whatever its kind, and .. the directory
--- above it
+-- with EXPORT_SUPPORT the name . finds the node itself, whatever its kind, and .. its parent
+-- directory
 pub record ExportExamples : Type 0 where
   pub directory : over_exported (request 1 2 3 itself)
       ≡ over_sample (request 1 2 1 (codes "d" ++ zeros 1))
@@ -418,7 +418,7 @@ pub record ExportExamples : Type 0 where
   pub not_exported : over_sample (request 1 2 3 itself) ≡ refused 2 0xfffffffe
   pub file_not_exported : over_sample (request 1 2 2 itself) ≡ refused 2 0xffffffec
 
--- requests that have no reply, fresh and ready, whatever their body
+-- requests without a reply, in fresh and ready sessions, whatever their body
 pub record SilentExamples : Type 0 where
   pub interrupt : over_sample (request 36 2 0 (zeros 8)) ≡ []
   pub interrupt_fresh : over_empty Fresh (request 36 2 0 []) ≡ []
@@ -427,7 +427,7 @@ pub record SilentExamples : Type 0 where
   pub short_forget : over_sample (request 2 2 2 (zeros 7)) ≡ []
   pub short_batch_forget : over_empty Fresh (request 42 2 0 (zeros 7)) ≡ []
 
--- which of two refusals is answered
+-- which of two errors a request gets
 pub record RefusalOrder : Type 0 where
   pub session_first : over_empty Fresh (request 99 1 1 []) ≡ refused 1 0xfffffffb
   pub init_again_short : over_sample (request 26 2 0 []) ≡ refused 2 0xfffffffb
@@ -448,7 +448,7 @@ two_paths =
     ∷ []
 
 -- mode 0x2180 and rdev 0x103 of the device; the root has one directory; 11 blocks and 6 nodes, and
--- one node where two paths have one place
+-- one node if two paths have one place
 pub record NodeExamples : Type 0 where
   pub device_mode : take 4 (drop 92 (over_sample (request 3 2 6 (zeros 16))))
       ≡ dump (0x80210000 ∷ [])
@@ -479,8 +479,8 @@ pub record NodeExamples : Type 0 where
   pub write : over_sample (request 16 2 2 (zeros 40)) ≡ refused 2 0xffffffe2
   pub unserved : over_sample (request 99 2 2 []) ≡ refused 2 0xffffffda
 
--- OPEN answers open_flags FOPEN_KEEP_CACHE, which is 2, and refuses each access mode but O_RDONLY;
--- OPENDIR answers none
+-- OPEN answers open_flags FOPEN_KEEP_CACHE, which is 2, and refuses each access mode except
+-- O_RDONLY; OPENDIR answers no flags
 pub record OpenExamples : Type 0 where
   pub open_file : over_sample (request 14 2 2 (zeros 8))
       ≡ headed 2 32 ++ zeros 8 ++ u32 2 ++ zeros 4
@@ -501,7 +501,7 @@ abbrev pub dirent_row : ℕ → ℕ → ℕ → List ℕ → List ℕ
 dirent_row ino off file_type name =
     u64 ino ++ u64 off ++ u32 (length name) ++ u32 file_type ++ name ++ zeros (8 - length name)
 
--- twelve requests, the session's first and last among them
+-- twelve requests, including the session's first and last
 abbrev pub twelve_requests : List (List ℕ)
 twelve_requests =
     init_request
@@ -537,8 +537,8 @@ pub record TwelveRequests : Type 0 where
       ++ refused 12 0xfffffffb
   pub sized : length (replies sample_stack Fresh twelve_requests) ≡ 1531
 
--- a session with EXPORT_SUPPORT that looks up, lists and forgets. The count of the BATCH_FORGET
--- says three items, two exist, and one of these has no node; the last FORGET has an incomplete body
+-- a session with EXPORT_SUPPORT that looks up, lists and forgets. The count of the BATCH_FORGET is
+-- three items, two exist, and one of these has no node; the last FORGET has an incomplete body
 abbrev pub looking_up : List (List ℕ)
 looking_up =
     request 26 1 0 (init_in 7 31 131072 0x10)
@@ -557,11 +557,11 @@ looking_up =
 abbrev pub held : ℕ → ℤ
 held node = balance_after sample_stack Fresh looking_up node
 
--- what one request of a session gives and takes
+-- the lookups that one request of a session gives and takes
 abbrev pub moved_over_sample : Session → List ℕ → List Move
 moved_over_sample s m = moves sample_stack s (asked m)
 
--- what these requests leave of each node, and what single ones give and take
+-- the balances that these requests leave, and the lookups that single ones give and take
 pub record BalanceExamples : Type 0 where
   pub replies_sized : length (replies sample_stack Fresh looking_up) ≡ 1648
   pub balances :

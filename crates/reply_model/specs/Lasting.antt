@@ -1,5 +1,5 @@
 -- linux/fuse.h, FUSE_NO_OPEN_SUPPORT, FUSE_NO_OPENDIR_SUPPORT, FUSE_CACHE_SYMLINKS and
--- FOPEN_CACHE_DIR: what a stream that is served lastingly is replied in place of the usual replies.
+-- FOPEN_CACHE_DIR: the replies to a lasting stream instead of the usual ones.
 use Rattle.std.specs.Prelude.{◌≡◌, ◌≢◌, ℕ, ◌+◌, Bool, true, false, List, [], if◌then◌else◌}
 use Rattle.fuse_wire.specs.declared.errno.Errno.TheVariants.{ENOENT, ENOSYS}
 use Rattle.fuse_wire.specs.declared.flags.TheConstants.{FOPEN_KEEP_CACHE, FOPEN_CACHE_DIR}
@@ -11,26 +11,28 @@ use Rattle.reply_model.specs.declared.session.Agreement.{Agreement}
 use Rattle.reply_model.specs.declared.session.Session.{Session}
 use Rattle.reply_model.specs.declared.session.Session.TheVariants.{Fresh, Ready, LastingFresh, LastingReady}
 
--- the usual session in the place of a lasting one
+-- the usual session instead of a lasting one
 abbrev pub usual_of : Session → Session
 usual_of LastingFresh = Fresh
 usual_of (LastingReady export acls no_open no_opendir) = Ready export acls
 usual_of s = s
 
--- if the usual reply is the first of two, the lasting one is the second; else they are the same
+-- if the usual reply is the first of two, the lasting one is the second; otherwise they are the
+-- same
 pub record Becomes (from to usual lasting : List ℕ) : Type 0 where
   pub there : usual ≡ from → lasting ≡ to
   pub elsewhere : usual ≢ from → lasting ≡ usual
 
--- a client that need not ask learns so, and else that it is opened, with these flags
+-- ENOSYS for a client that need not send such requests, otherwise the reply that it is opened, with
+-- these flags
 abbrev pub told_of_opening : Bool → ℕ → ℕ → List ℕ
 told_of_opening need_not unique flags =
     if need_not then error_reply unique ENOSYS else reply_with unique (open_out flags)
 
 -- the usual and the lasting reply to a request, over a tree with access control lists or without:
--- INIT is answered other terms; that LOOKUP finds no entry is an entry of no node; OPEN and OPENDIR
--- are answered that the client need not ask, or OPENDIR other flags; and FLUSH that it need not.
--- Every other reply is the same
+-- INIT is answered with other terms; a LOOKUP that finds no entry with an entry of no node; OPEN
+-- and OPENDIR with ENOSYS if the client need not send them, or OPENDIR with other flags; and FLUSH
+-- with ENOSYS. Every other reply is the same
 abbrev pub LastsAs : Bool → Agreement → ℕ → Op → List ℕ → List ℕ → Type 0
 LastsAs acls agreed unique (init major minor readahead flags) usual lasting =
     Becomes (reply_with unique (init_out (Terms false acls minor readahead flags)))

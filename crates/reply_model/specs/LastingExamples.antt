@@ -1,5 +1,5 @@
--- Worked examples of streams that are served lastingly: requests written out, and what they are
--- answered, over the images of `Examples`.
+-- Worked examples of lasting streams: requests written out, and the answers to them, over the
+-- images of `Examples`.
 use Rattle.std.specs.Prelude.{◌≡◌, ℕ, pos, List, [], ◌∷◌, ◌++◌, length, map, take, drop, replicate, Bool, true, false, codes}
 use Rattle.fuse_wire.specs.declared.errno.Errno.TheVariants.{ENOENT, ENAMETOOLONG}
 use Rattle.fuse_wire.specs.Requests.{init, done, destroy, asked, at_node, lookup}
@@ -12,7 +12,7 @@ use Rattle.reply_model.specs.Replies.{reply}
 use Rattle.reply_model.specs.Streams.{replies, balance_after}
 use Rattle.reply_model.specs.Examples.{dump, sample_stack, request, init_in, refused, headed, over_empty, over_sample, over_exported, init_reply, older_init_reply, version_reply, newer_init_reply, x_entry_reply, itself, two_dots, twelve_requests, looking_up, held, moved_over_sample}
 
--- a ready session whose client said EXPORT_SUPPORT, NO_OPEN_SUPPORT, NO_OPENDIR_SUPPORT or not
+-- a ready session whose client sent EXPORT_SUPPORT, NO_OPEN_SUPPORT, NO_OPENDIR_SUPPORT or not
 abbrev pub over_lasting : Bool → Bool → Bool → List ℕ → List ℕ
 over_lasting export no_open no_opendir m =
     reply sample_stack (LastingReady export false no_open no_opendir) (asked m)
@@ -28,15 +28,15 @@ longer_init_reply = dump (
     0x1160c601
     ∷ 0x0c000900 ∷ 0x00000200 ∷ 0x01000000 ∷ 0x00010000 ∷ []) ++ replicate 32 0
 
--- INIT of minor version 22 with NO_OPEN_SUPPORT is answered so, in 24 bytes
+-- INIT of minor version 22 with NO_OPEN_SUPPORT gets this answer, in 24 bytes
 abbrev pub older_lasting_reply : List ℕ
 older_lasting_reply = dump (
     0x28000000 ∷ 0x00000000 ∷ 0x01000000 ∷ 0x00000000 ∷ 0x07000000 ∷ 0x1f000000 ∷ 0x00000200 ∷
     0x01000200
     ∷ 0x0c000900 ∷ 0x00000200 ∷ [])
 
--- the longer INIT in both manners; one without flags that only a lasting session has is answered
--- alike; minor versions 12 to 22, and what is refused
+-- the longer INIT in both kinds of sessions; one without flags that only a lasting session has gets
+-- the same answer; minor versions 12 to 22, and versions that are refused
 pub record LastingInitExamples : Type 0 where
   pub message : length longer_init ≡ 104
   pub usual : over_empty Fresh longer_init ≡ newer_init_reply
@@ -85,7 +85,7 @@ abbrev pub no_entry_reply : List ℕ
 no_entry_reply =
     headed 2 144 ++ replicate 16 0 ++ dump (0x100e0000 ∷ 0x00000000 ∷ []) ++ replicate 104 0
 
--- a name that is none, in a directory alone, unless something else refuses it
+-- a name without an entry, only in a directory, unless something else refuses it
 pub record LastingLookupExamples : Type 0 where
   pub entry : over_lasting false false false (request 1 10 3 (codes "x" ++ zeros 1))
       ≡ x_entry_reply
@@ -110,7 +110,7 @@ pub record LastingLookupExamples : Type 0 where
   pub exported_missing : over_lasting true false false (request 1 2 1 (codes "..." ++ zeros 1))
       ≡ no_entry_reply
 
--- OPEN and OPENDIR with the client's flag and without it; each minds its own flag
+-- OPEN and OPENDIR with the client's flag and without it; each depends on its own flag
 pub record LastingOpenExamples : Type 0 where
   pub open_file : over_lasting true false true (request 14 2 2 (zeros 8))
       ≡ headed 2 32 ++ zeros 8 ++ u32 2 ++ zeros 4
@@ -132,7 +132,7 @@ pub record LastingOpenExamples : Type 0 where
   pub opendir_of_no_node : over_lasting false false true (request 27 2 7 (zeros 8))
       ≡ refused 2 0xffffff8c
 
--- FLUSH, whatever its body and node, once the session is begun; and the other replies
+-- FLUSH, whatever its body and node, after the session has begun; and the other replies
 pub record LastingFlushExamples : Type 0 where
   pub flush : over_lasting false false false (request 25 2 2 (zeros 24)) ≡ refused 2 0xffffffda
   pub no_body : over_lasting false false false (request 25 2 99 []) ≡ refused 2 0xffffffda
@@ -143,8 +143,8 @@ pub record LastingFlushExamples : Type 0 where
   pub fsync : over_lasting false false false (request 20 2 2 (zeros 16)) ≡ headed 2 16
   pub fsyncdir : over_lasting false false false (request 30 2 3 (zeros 16)) ≡ headed 2 16
 
--- of a LOOKUP that is refused ENAMETOOLONG, and of one that finds no entry: the one reply has to
--- stay, and the other has to become an entry of no node
+-- a LOOKUP that is refused with ENAMETOOLONG, and one that finds no entry: the first reply has to
+-- stay, and the second has to become an entry of no node
 pub record LastingStayExamples : Type 0 where
   pub too_long : (lasting : List ℕ)
       → LastsAs false (agreement_of (LastingReady false false false false)) 2
@@ -155,8 +155,8 @@ pub record LastingStayExamples : Type 0 where
       (at_node (lookup (codes "x"))) (error_reply 2 ENOENT) lasting
       → lasting ≡ reply_with 2 negative_entry_out
 
--- a session whose client need not open files, and after DESTROY one whose client need not open
--- directories
+-- a session whose client need not send OPEN, and after DESTROY one whose client need not send
+-- OPENDIR
 abbrev pub two_sessions : List (List ℕ)
 two_sessions =
     request 26 1 0 (init_in 7 31 131072 0x20000)
@@ -175,7 +175,7 @@ begun_with unique flags =
     headed unique 80 ++ u32 7 ++ u32 31 ++ u32 131072 ++ u32 flags
     ++ dump (0x0c000900 ∷ 0x00000200 ∷ 0x01000000 ∷ 0x00000000 ∷ []) ++ replicate 32 0
 
--- whole streams: the twelve requests are none that differ; a name that is none is no lookup
+-- entire streams: no reply to the twelve requests differs; a name without an entry gives no lookup
 pub record LastingStreamExamples : Type 0 where
   pub twelve :
       replies sample_stack LastingFresh twelve_requests

@@ -1,4 +1,4 @@
--- What holds for replies and moves, whatever the layers.
+-- Laws of replies and moves, whatever the layers.
 use Rattle.std.specs.Prelude.{◌≡◌, ℕ, ◌⊎◌, ◌+◌, ◌<◌, ◌≤◌, List, [], ◌∷◌, ◌++◌, length, map, filter, take, slice_get, slice_index, slice_index_or, ◌^◌, Some, Bool, true, false, IsTrue, bytes_eq}
 use Rattle.std.specs.List.{flat_map, list_any}
 use Rattle.fuse_wire.specs.declared.errno.Errno.{Errno}
@@ -18,7 +18,7 @@ use Rattle.reply_model.specs.Replies.{reply}
 use Rattle.reply_model.specs.Services.{give}
 use Rattle.reply_model.specs.Moves.{moves}
 
--- the bytes begin with how many they are, as 32 bits, an error, and the request's unique
+-- the bytes begin with their own length, as 32 bits, an error, and the request's unique
 pub record IsReplyTo (unique : ℕ) (bytes : List ℕ) : Type 0 where
   pub error : ℕ
   pub rest : List ℕ
@@ -33,31 +33,30 @@ pub record AreFirstThatFit (form : Row → List ℕ) (room : ℕ) (all rows : Li
       → room < length (flat_map form rows) + length (form next)
 
 module _ (stack : Stacked) where
-  -- the request is answered an error, and gives nothing
+  -- the request is answered with an error, and gives no lookups
   abbrev pub GivesNothing : Session → Asked → Type 0
   GivesNothing s q =
       ((errno : Errno) × (reply stack s q ≡ error_reply q.unique errno))
       × (moves stack s q ≡ [])
 
-  -- it is answered the entry of a node, and gives one lookup of that node
+  -- it is answered with the entry of a node, and gives one lookup of that node
   abbrev pub IsEntry : Session → Asked → Type 0
   IsEntry s q =
       (p : Place)
       × (reply stack s q ≡ reply_with q.unique (entry_out (attr_of stack p)))
       × (moves stack s q ≡ give stack p ∷ [])
 
-  -- it is answered that the name is none, and gives nothing
+  -- it is answered that the name has no entry, and gives no lookups
   abbrev pub IsNoEntry : Session → Asked → Type 0
   IsNoEntry s q =
       (reply stack s q ≡ reply_with q.unique negative_entry_out)
       × (moves stack s q ≡ [])
 
-  -- a LOOKUP gives one lookup of the node whose entry it is answered, or nothing
+  -- a LOOKUP gives one lookup of the node whose entry is in its reply, or none
   abbrev pub GivesEntry : Session → Asked → Type 0
   GivesEntry s q = GivesNothing s q ⊎ (IsNoEntry s q ⊎ IsEntry s q)
 
-  -- a READDIRPLUS gives one lookup of the node of each row that it is answered but . and .., or
-  -- nothing
+  -- a READDIRPLUS gives one lookup of the node of each row in its reply except . and .., or none
   abbrev pub GivesRows : Session → Asked → Type 0
   GivesRows s q =
       GivesNothing s q
@@ -67,7 +66,7 @@ module _ (stack : Stacked) where
       × (moves stack s q
       ≡ map (λ r. give stack r.1.place) (filter is_child rows)))
 
--- the requests that give or take
+-- the requests that give or take lookups
 abbrev pub is_moving : Op → Bool
 is_moving (at_node (lookup name)) = true
 is_moving (silent (forget nlookup)) = true
@@ -91,7 +90,7 @@ pub record IsRow (row : AttributeRow) : Type 0 where
   pub seconds : row.seconds < 2 ^ 64
   pub nanoseconds : row.nanoseconds < 2 ^ 32
 
--- the numbers of each row of each layer do, and those of the owner of all that has none
+-- so do the numbers of each row of each layer, and those of the owner of everything without a row
 pub record AreOwned (stack : Stacked) : Type 0 where
   pub owner : IsOwner stack.owner
   pub rows : (p : Place) (row : AttributeRow) → row_of stack p ≡ Some row → IsRow row

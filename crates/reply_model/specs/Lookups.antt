@@ -7,7 +7,7 @@ use Rattle.stack_model.specs.Numbers.{Place, same_name, parent, child}
 abbrev pub is_itself : Bool → List ℕ → Bool
 is_itself export name = export && same_name name (codes ".")
 
--- and the name .. finds the directory above
+-- and the name .. finds the parent directory
 abbrev pub is_parent : Bool → List ℕ → Bool
 is_parent export name = export && same_name name (codes "..")
 

@@ -14,29 +14,29 @@ use Rattle.reply_model.specs.Sessions.{agreement_of}
 use Rattle.reply_model.specs.Services.{service}
 use Rattle.reply_model.specs.Refusals.{refusal}
 
--- what is given less what is taken of one node
+-- the lookups given minus those taken, of one node
 abbrev pub balance : ℕ → List Move → ℤ
 balance node [] = pos 0
 balance node (m ∷ moves) = (if m.node == node then m.amount else pos 0) +ℤ balance node moves
 
--- what is forgotten
+-- the lookups that are forgotten
 abbrev pub forgotten : ℕ → SilentOp → List Forget
 forgotten node (forget nlookup) = record { node = node; nlookup = nlookup } ∷ []
 forgotten node (batch_forget items) = items
 forgotten node interrupt = []
 
 module _ (stack : Stacked) where
-  -- what is forgotten is taken back, if the number is in use
+  -- forgotten lookups are taken back, if the number is in use
   abbrev pub take_back : Forget → Option Move
   take_back f =
       option_map (λ p. record { node = f.node; amount = neg_ℤ (pos f.nlookup) })
       (node_of stack.entries f.node)
 
-  -- what a request about a node gives
+  -- the lookups that a request about a node gives
   abbrev pub gives_at : Agreement → NodeOp → Place → List Move
   gives_at agreed op p = (service stack agreed op).gives p
 
-  -- what a request gives and takes that is not refused, in order
+  -- the lookups that a request that is not refused gives and takes, in order
   abbrev pub moved : Agreement → ℕ → Op → List Move
   moved agreed node (at_node op) =
       option_map_or (gives_at agreed op) (node_of stack.entries node) []
@@ -48,8 +48,8 @@ module _ (stack : Stacked) where
   moved agreed node other = []
   moved agreed node (malformed opcode) = []
 
-  -- what a request gives and takes; one that is refused, as any but INIT in a fresh session,
-  -- changes nothing
+  -- the lookups that a request gives and takes; one that is refused, such as any but INIT in a
+  -- fresh session, changes nothing
   abbrev pub moves : Session → Asked → List Move
   moves s q =
       if is_some (refusal stack s q.node q.op) then []

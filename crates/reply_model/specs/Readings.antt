@@ -12,13 +12,13 @@ use Rattle.stack_model.specs.Attributes.{data_start}
 use Rattle.reply_model.specs.declared.session.Session.{Session}
 use Rattle.reply_model.specs.Replies.{reply}
 
--- a stack, and what the data of its layers are read from, lowest first; those of a layer without a
+-- a stack, and what the data of its layers are read from, lowest first; data of a layer without a
 -- source are held
 pub record Sourced : Type 0 where
   pub stack : Stacked
   pub sources : List Source
 
--- the same, of its parts
+-- the same, from its parts
 abbrev pub sourced : Stacked → List Source → Sourced
 sourced stack sources = record { stack = stack; sources = sources }
 
@@ -34,13 +34,13 @@ module _ (by : Sourced) where
       (λ source. record { source = source; place = data_start by.stack.layers p + offset })
       (slice_get by.sources p.0)
 
-  -- what the data are read from that a request about the node at a place is answered; only a READ
+  -- what the data of the answer to a request about the node at a place are read from; only a READ
   -- reads any
   abbrev pub reading_at : NodeOp → Place → Option Reading
   reading_at (read offset size) p = data_reading offset p
   reading_at _ p = None
 
-  -- the same of a request about the node with this number
+  -- the same for a request about the node with this number
   abbrev pub reading_in : ℕ → Op → Option Reading
   reading_in node (at_node op) =
       option_and_then (reading_at op) (node_of by.stack.entries node)
@@ -67,12 +67,12 @@ AreShown (source ∷ sources) (xs ∷ images) = Shows source xs × AreShown sour
 AreShown [] (xs ∷ images) = ⊥
 AreShown (source ∷ sources) [] = ⊥
 
--- these bytes are the defined reply to a request; or, if its data are read from a source that may
--- lack them, that of EIO
+-- these bytes are the defined reply to a request; or the reply with EIO, if its data are read from
+-- a source that may lack them
 abbrev pub IsRightOver : Sourced → List ℕ → Asked → List ℕ → Type 0
 IsRightOver by defined q bytes = IsRight (reading_of by q) q.unique defined bytes
 
--- each of these bytes, from a place on, is one of a block for which the digest vouches
+-- each of these bytes, from a place on, is in a block for which the digest vouches
 pub record AreVouched (seal : Seal) (place : ℕ) (bytes : List ℕ) : Type 0 where
   pub each : (k : ℕ) → k < length bytes
       → VouchesAt seal.algorithm seal.hash seal.size seal.digest (place + k) (slice_index bytes k)

@@ -1,4 +1,4 @@
--- Which requests are refused, and with which error: the first refusal in this order that fits.
+-- Which requests are refused, and with which error: the first in this order that applies.
 use Rattle.std.specs.Prelude.{ℕ, List, [], ◌∷◌, Bool, true, false, not, ◌||◌, ◌&&◌, ◌==◌, nat_lt, Option, Some, None, if◌then◌else◌}
 use Rattle.std.specs.Option.{option_map_or}
 use Rattle.fuse_wire.specs.declared.errno.Errno.{Errno}
@@ -19,17 +19,17 @@ first_refusal [] = None
 first_refusal (Some errno ∷ rest) = Some errno
 first_refusal (None ∷ rest) = first_refusal rest
 
--- an INIT, also one that is too short
+-- an INIT, even if it is too short
 abbrev pub is_init : Op → Bool
 is_init (init major minor readahead flags) = true
 is_init (malformed opcode) = opcode == INIT
 is_init _ = false
 
--- a fresh session answers INIT alone, one that is ready anything else
+-- a fresh session answers only INIT, a ready one anything else
 abbrev pub refused_by_session : Bool → Op → Option Errno
 refused_by_session fresh op = refuse_if (if fresh then not (is_init op) else is_init op) EIO
 
--- lastingly a client learns once that it need not report closed files
+-- in a lasting session FLUSH gets ENOSYS, and a client then sends no more of them
 abbrev pub refused_when_done : Agreement → DoneOp → Option Errno
 refused_when_done agreed flush = refuse_if agreed.lasting ENOSYS
 refused_when_done agreed release = None
@@ -38,7 +38,7 @@ refused_when_done agreed releasedir = None
 refused_when_done agreed fsyncdir = None
 refused_when_done agreed destroy = None
 
--- a request for extended attributes, also one that is malformed
+-- a request for extended attributes, even if it is malformed
 abbrev pub asks_xattrs : Op → Bool
 asks_xattrs (at_node (getxattr size name)) = true
 asks_xattrs (at_node (listxattr size)) = true
@@ -46,8 +46,8 @@ asks_xattrs (malformed opcode) = is_in opcode (GETXATTR ∷ LISTXATTR ∷ [])
 asks_xattrs _ = false
 
 module _ (stack : Stacked) where
-  -- extended attributes are not served where no node has one, whatever the node or name: a client
-  -- that is answered so asks for no others
+  -- extended attributes are not served if no node has one, whatever the node or name: a client that
+  -- gets this answer asks for no others
   abbrev pub is_unserved : Op → Bool
   is_unserved op = asks_xattrs op && not (has_xattrs stack)
 
@@ -57,9 +57,9 @@ module _ (stack : Stacked) where
       let asked = service stack agreed op in
       first_refusal (asked.by_kind (kind_at stack.layers p) ∷ asked.by_arguments p ∷ [])
 
-  -- requests that would change the tree, that are not served, or that are malformed; versions that
-  -- are not spoken, but a client of a later major version gets the version; numbers that are not in
-  -- use, and what is refused at their node
+  -- requests that would change the tree, that are not supported, or that are malformed; unsupported
+  -- versions, except that a client of a later major version gets the version; numbers that are not
+  -- in use, and what is refused at their node
   abbrev pub refused_by_op : Agreement → ℕ → Op → Option Errno
   refused_by_op agreed node modify = Some EROFS
   refused_by_op agreed node other = Some ENOSYS
@@ -72,12 +72,12 @@ module _ (stack : Stacked) where
   refused_by_op agreed node (done op) = refused_when_done agreed op
   refused_by_op agreed node (silent op) = None
 
-  -- the same, and before it that extended attributes are not served
+  -- the same, after the check that extended attributes are served
   abbrev pub refused_by_itself : Agreement → ℕ → Op → Option Errno
   refused_by_itself agreed node op =
       if is_unserved op then Some ENOSYS else refused_by_op agreed node op
 
-  -- the same of any request: whether the session is fresh comes before all else
+  -- the same for any request: whether the session is fresh comes before all else
   abbrev pub refusal_in : Bool → Agreement → ℕ → Op → Option Errno
   refusal_in fresh agreed node op =
       first_refusal (refused_by_session fresh op ∷ refused_by_itself agreed node op ∷ [])

@@ -15,7 +15,7 @@ use Rattle.reply_model.specs.Sessions.{agreement_of}
 use Rattle.reply_model.specs.Services.{service}
 use Rattle.reply_model.specs.Refusals.{refusal}
 
--- the requests that have no reply, whatever their body
+-- the requests without a reply, whatever their body
 abbrev pub is_silent : Op → Bool
 is_silent (silent op) = true
 is_silent (malformed opcode) = is_in opcode (FORGET ∷ BATCH_FORGET ∷ [])
@@ -27,11 +27,11 @@ is_silent modify = false
 is_silent other = false
 
 module _ (stack : Stacked) where
-  -- what a request about a node is answered
+  -- the answer to a request about a node
   abbrev pub answer_at : Agreement → NodeOp → Place → List ℕ
   answer_at agreed op p = (service stack agreed op).answer p
 
-  -- what a request is answered that is not refused
+  -- the answer to a request that is not refused
   abbrev pub answer : Agreement → ℕ → Op → List ℕ
   answer agreed node (init major minor readahead flags) =
       init_out

@@ -1,4 +1,4 @@
--- The rows of directories as linux/fuse.h has them (readdir(3): . and .. come first).
+-- The rows of directories in linux/fuse.h (readdir(3): . and .. come first).
 use Rattle.std.specs.Prelude.{ℕ, ◌-◌, ◌/◌, ◌^◌, List, [], ◌∷◌, length, drop, Bool, false, nat_lt, nat_le, Some, None, if◌then◌else◌, codes}
 use Rattle.std.specs.List.{enumerate_from}
 use Rattle.fuse_wire.specs.Structures.{dirent, direntplus}
@@ -25,7 +25,7 @@ is_too_small form room (r ∷ rows) = nat_lt room (length (form r))
 abbrev pub is_child : Row → Bool
 is_child r = nat_lt 2 r.0
 
--- the rows of the directory at a place: itself, the one above it, and its children
+-- the rows of the directory at a place: itself, its parent, and its children
 unfoldable pub rows : List Entry → Place → List Child
 rows entries p =
     record { name = codes "."; place = p }
@@ -36,17 +36,17 @@ rows entries p =
 unfoldable pub rows_after : List Entry → Place → ℕ → List Row
 rows_after entries p offset = drop offset (enumerate_from 1 (rows entries p))
 
--- those of them that a size has room for
+-- those of them that fit in a size
 abbrev pub rows_answered : List Entry → (Row → List ℕ) → Place → ℕ → ℕ → List Row
 rows_answered entries form p offset size = fitting form size (rows_after entries p offset)
 
 module _ (stack : Stacked) where
-  -- a row as READDIR gives it: off is its place, and its type the upper bits of the node's mode
+  -- a row of READDIR: off is its place, and its type the upper bits of the node's mode
   unfoldable pub dirent_of : Row → List ℕ
   dirent_of r =
       dirent (number stack.entries r.1.place) r.0 (mode_at stack r.1.place / 2 ^ 12) r.1.name
 
-  -- the same as READDIRPLUS gives it, with the node's entry; . and .. have none
+  -- the same for READDIRPLUS, with the node's entry; . and .. have none
   unfoldable pub direntplus_of : Row → List ℕ
   direntplus_of r =
       direntplus (if is_child r then Some (attr_of stack r.1.place) else None)

@@ -1,4 +1,4 @@
--- linux/fuse.h, enum fuse_opcode: the requests about a node, a row each.
+-- linux/fuse.h, enum fuse_opcode: the requests about a node, one row each.
 use Rattle.std.specs.Prelude.{ℕ, ◌%◌, List, [], length, map, filter, take, drop, Bool, not, ◌&&◌, ◌||◌, ◌+◌, ◌==◌, nat_lt, Option, Some, None, is_none, pos, if◌then◌else◌}
 use Rattle.std.specs.List.{flat_map}
 use Rattle.std.specs.Option.{option_map_or, option_to_list}
@@ -24,17 +24,17 @@ use Rattle.reply_model.specs.Rows.{Row, is_child, is_too_small, rows_after, rows
 abbrev pub refuse_if : Bool → Errno → Option Errno
 refuse_if wrong errno = if wrong then Some errno else None
 
--- what refuses a request by the kind of its node: it is no directory
+-- the refusal by the kind of a node: it is not a directory
 abbrev pub unless_directory : Kind → Option Errno
 unless_directory k = refuse_if (not (is_directory k)) ENOTDIR
 
--- it is no regular file; a directory has an error of its own
+-- it is not a regular file; a directory has an error of its own
 abbrev pub unless_regular : Kind → Option Errno
 unless_regular Regular = None
 unless_regular Directory = Some EISDIR
 unless_regular _ = Some EINVAL
 
--- it is no symbolic link
+-- it is not a symbolic link
 abbrev pub unless_link : Kind → Option Errno
 unless_link SymLink = None
 unless_link _ = Some EINVAL
@@ -47,7 +47,7 @@ of_any_kind k = None
 abbrev pub is_too_large : ℕ → Bool
 is_too_large size = nat_lt MAX_DATA_SIZE size
 
--- the open_flags of a directory: lastingly its rows may be kept
+-- the open_flags of a directory: in a lasting session its rows may be cached
 abbrev pub opendir_flags : Bool → ℕ
 opendir_flags lasting = if lasting then FOPEN_KEEP_CACHE + FOPEN_CACHE_DIR else 0
 
@@ -55,15 +55,15 @@ opendir_flags lasting = if lasting then FOPEN_KEEP_CACHE + FOPEN_CACHE_DIR else 
 abbrev pub refused_rows : (Row → List ℕ) → ℕ → List Row → Option Errno
 refused_rows form size rows = refuse_if (is_too_large size || is_too_small form size rows) EINVAL
 
--- what is done for a request about a node: it is refused by the node's kind, or by its arguments
--- there, or else it is answered these bytes and gives these lookups
+-- how a request about a node is served: it is refused by the node's kind, or by its arguments
+-- there, or otherwise answered with these bytes and gives these lookups
 pub record Service : Type 0 where
   pub by_kind : Kind → Option Errno
   pub by_arguments : Place → Option Errno
   pub answer : Place → List ℕ
   pub gives : Place → List Move
 
--- one whose arguments are never refused, and that gives nothing
+-- a service whose arguments are never refused, and that gives no lookups
 abbrev pub tells : (Kind → Option Errno) → (Place → List ℕ) → Service
 tells by_kind answer =
     record { by_kind = by_kind; by_arguments = λ p. None; answer = answer; gives = λ p. [] }
@@ -91,8 +91,9 @@ module _ (stack : Stacked) where
   names_told agreed p = names_of (xattrs_told (serves_acls agreed) (xattrs_of stack p))
 
   -- each of them. With EXPORT_SUPPORT the name . finds a node of any kind; an access mode other
-  -- than 0 is not O_RDONLY; READDIRPLUS gives the nodes of its rows but . and ... Lastingly a
-  -- missing name is answered so, and gives nothing; a client that need not open learns so last
+  -- than 0 is not O_RDONLY; READDIRPLUS gives the nodes of its rows except . and ... In a lasting
+  -- session a missing name gets a negative entry, and gives no lookup; ENOSYS for a client that
+  -- need not open comes last
   abbrev pub service : Agreement → NodeOp → Service
   service agreed (lookup name) = record {
     by_kind = λ k. if is_itself agreed.export name then None else unless_directory k;

@@ -7,11 +7,11 @@ use Rattle.reply_model.specs.declared.session.Agreement.{Agreement}
 use Rattle.reply_model.specs.declared.session.Session.{Session}
 use Rattle.reply_model.specs.declared.session.Session.TheVariants.{Fresh, Ready, LastingFresh, LastingReady}
 
--- the versions that a session is begun with
+-- the versions that begin a session
 abbrev pub is_spoken : ℕ → ℕ → Bool
 is_spoken major minor = major == 7 && nat_le 12 minor
 
--- the session after a request; a stream that is served lastingly stays so
+-- the session after a request; a lasting stream stays lasting
 abbrev pub session_after : Session → Op → Session
 session_after Fresh (init major minor readahead flags) =
     if is_spoken major minor then Ready (has_export flags) (has_acl flags) else Fresh
@@ -23,7 +23,7 @@ session_after (Ready export acls) (done destroy) = Fresh
 session_after (LastingReady export acls no_open no_opendir) (done destroy) = LastingFresh
 session_after s _ = s
 
--- the session is not begun yet
+-- the session has not begun
 abbrev pub is_fresh : Session → Bool
 is_fresh Fresh = true
 is_fresh LastingFresh = true
@@ -31,7 +31,7 @@ is_fresh (Ready export acls) = false
 is_fresh (LastingReady export acls no_open no_opendir) = false
 
 -- what is agreed on in it: nothing before INIT, and only EXPORT_SUPPORT and POSIX_ACL if the stream
--- is not served lastingly
+-- is not lasting
 abbrev pub agreement_of : Session → Agreement
 agreement_of Fresh =
     record { lasting = false; export = false; acls = false; no_open = false; no_opendir = false }

@@ -37,11 +37,11 @@ acl_and_user =
     record { name = codes "system.posix_acl_access"; value = named_acl }
     ∷ record { name = codes "user.z"; value = codes "9" } ∷ []
 
--- the reply to a message where no file has an access control list
+-- the reply to a message if no file has an access control list
 abbrev pub over_user : List ℕ → List ℕ
 over_user m = reply (xattr_stack []) (Ready false false) (asked m)
 
--- the same where x has one, to a client that enforces them or not
+-- the same if x has one, to a client that enforces them or not
 abbrev pub over_acl : Bool → List ℕ → List ℕ
 over_acl enforced m = reply (xattr_stack acl_and_user) (Ready false enforced) (asked m)
 
@@ -52,8 +52,8 @@ get node size name = request 22 2 node (u32 size ++ zeros 4 ++ name ++ zeros 1)
 abbrev pub list : ℕ → ℕ → List ℕ
 list node size = request 23 2 node (u32 size ++ zeros 4)
 
--- size 0 asks how long a value is; else it is answered, or ERANGE if it is longer. No other name
--- has it, nor another node
+-- size 0 asks for the length of a value; otherwise the answer is the value, or ERANGE if it is
+-- longer. No other name has it, nor another node
 pub record GetxattrExamples : Type 0 where
   pub size : over_user (get 2 0 (codes "user.a")) ≡ headed 2 24 ++ u32 3 ++ zeros 4
   pub just_enough : over_user (get 2 3 (codes "user.a")) ≡ headed 2 19 ++ codes "xyz"
@@ -106,7 +106,7 @@ pub record AclReplyExamples : Type 0 where
   pub without_acls : take 4 (drop 28 (reply (xattr_stack []) Fresh
       (asked (request 26 1 0 (init_in 7 31 0 0x106001))))) ≡ u32 0x6001
 
--- where no node has any, they are not served, whatever the node, the name or the body
+-- if no node has any, they are not served, whatever the node, the name or the body
 pub record UnservedExamples : Type 0 where
   pub get_any : over_sample (get 2 0 (codes "user.a")) ≡ refused 2 0xffffffda
   pub of_no_node : over_sample (get 7 0 (codes "user.a")) ≡ refused 2 0xffffffda

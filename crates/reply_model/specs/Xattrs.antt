@@ -1,5 +1,5 @@
--- linux/fuse.h, FUSE_GETXATTR and FUSE_LISTXATTR, and xattr(7): what a client gets of a node's
--- extended attributes.
+-- linux/fuse.h, FUSE_GETXATTR and FUSE_LISTXATTR, and xattr(7): the extended attributes of a node
+-- that a client gets.
 use Rattle.std.specs.Prelude.{ℕ, List, [], filter, length, Bool, not, ◌==◌, ◌&&◌, nat_lt, Option, Some, None, if◌then◌else◌}
 use Rattle.std.specs.Option.{option_map_or}
 use Rattle.romfs_format.specs.Extended.{Extended, is_acl_name, value_of}
@@ -16,17 +16,17 @@ abbrev pub refused_size : ℕ → List ℕ → Option Errno
 refused_size size bytes =
     if not (size == 0) && nat_lt size (length bytes) then Some ERANGE else None
 
--- with the size 0 how many the bytes are, and else these
+-- with the size 0 the number of bytes, otherwise the bytes
 abbrev pub sized_answer : ℕ → List ℕ → List ℕ
 sized_answer size bytes = if size == 0 then getxattr_out (length bytes) else bytes
 
--- what refuses a GETXATTR of this name: access control lists are not served; there is none of this
--- name; or its value is too long
+-- the refusal of a GETXATTR of this name: access control lists are not served; there is none with
+-- this name; or its value is too long
 abbrev pub refused_xattr : Bool → ℕ → List ℕ → List Extended → Option Errno
 refused_xattr acls size name xs =
     if is_acl_name name && not acls then Some EOPNOTSUPP
     else option_map_or (refused_size size) (value_of name xs) (Some ENODATA)
 
--- what it is answered
+-- the answer to it
 abbrev pub xattr_answer : ℕ → List ℕ → List Extended → List ℕ
 xattr_answer size name xs = option_map_or (sized_answer size) (value_of name xs) []

@@ -5,9 +5,9 @@ ghost use Rattle.reply_model.specs.Balances.{AreWithin, IsMoved, weight};
 
 use crate::Move;
 
-/// Adds an amount to a node's balance. The number 0, and one that no balance has, changes nothing.
+/// Adds an amount to a node's balance. The number 0, or one without a balance, changes nothing.
 ///
-/// It asks that neither a balance nor the amount is further from 0 than 2^125.
+/// It requires that neither a balance nor the amount is further from 0 than 2^125.
 pub fn add_move(balances: &mut [i128], node: u64, amount: i128)
     requires within { AreWithin (2 ^ 125) balances.old }
     requires small { unsigned_abs amount ≤ 2 ^ 125 }
@@ -24,7 +24,7 @@ pub fn add_move(balances: &mut [i128], node: u64, amount: i128)
 
 /// Adds moves one after another.
 ///
-/// It asks that no balance is further from 0 than 2^123, and that the moves are of no more than
+/// It requires that no balance is further from 0 than 2^123, and that the moves have no more than
 /// 2^112 lookups in all.
 pub fn add_moves(balances: &mut [i128], moves: &[Move])
     requires within { AreWithin (2 ^ 123) balances.old }

@@ -1,4 +1,4 @@
-//! Worked examples: over the empty image and the sample image, what requests are answered, by
+//! Worked examples: the answers to requests over the empty image and the sample image, by
 //! computation.
 #![tactic(auto, unfolding(crate::proofs::Computing::replies_on_literals))]
 
@@ -71,7 +71,7 @@ pub fn silent_example()
     ensures { SilentExamples }
 {}
 
-/// Which of two refusals is answered.
+/// Which of two errors a request gets.
 pub fn order_of_refusals_example()
     ensures { RefusalOrder }
 {}
@@ -91,7 +91,7 @@ pub fn acl_replies_example()
     ensures { AclReplyExamples }
 {}
 
-/// Requests for extended attributes where no node has any.
+/// Requests for extended attributes if no node has any.
 pub fn unserved_example()
     ensures { UnservedExamples }
 {}
@@ -101,7 +101,7 @@ pub fn twelve_requests_example()
     ensures { TwelveRequests }
 {}
 
-/// What requests give and take, and what a client holds after them.
+/// The lookups that requests give and take, and what a client holds after them.
 pub fn balances_example()
     ensures { BalanceExamples }
 {}
@@ -124,7 +124,7 @@ pub fn faults_example()
     ensures { FaultExamples }
 {}
 
-/// INIT of a stream that is served lastingly.
+/// INIT of a lasting stream.
 pub fn lasting_init_example()
     ensures { LastingInitExamples }
 {}
@@ -134,28 +134,28 @@ pub fn lasting_sessions_example()
     ensures { LastingSessionExamples }
 {}
 
-/// LOOKUP of existing names and of names that are none, lastingly.
+/// LOOKUP of existing and of missing names, in a lasting session.
 pub fn lasting_lookup_example()
     ensures { LastingLookupExamples }
 {}
 
-/// OPEN and OPENDIR, lastingly.
+/// OPEN and OPENDIR, in a lasting session.
 pub fn lasting_open_example()
     ensures { LastingOpenExamples }
 {}
 
-/// FLUSH, lastingly, and what stays the same.
+/// FLUSH in a lasting session, and what stays the same.
 pub fn lasting_flush_example()
     ensures { LastingFlushExamples }
 {}
 
-/// A reply that stays the same if it is served lastingly, and one that changes.
+/// A reply that stays the same in a lasting session, and one that changes.
 #[tactic(auto, using(crate::proofs::Lasting::stay))]
 pub fn lasting_stay_example()
     ensures { LastingStayExamples }
 {}
 
-/// Whole streams that are served lastingly, and their balances.
+/// Entire lasting streams, and their balances.
 pub fn lasting_streams_example()
     ensures { LastingStreamExamples }
 {}

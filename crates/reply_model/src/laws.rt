@@ -1,4 +1,4 @@
-//! What holds of every reply.
+//! Laws of all replies.
 
 ghost use Rattle.std.specs.Prelude.{◌≡◌, ◌⊎◌, ◌≤◌, ◌+◌, [], ◌∷◌, ◌++◌, ℕ, List, length, drop, map, slice_get, Some, All, true, false, ◌+ℤ◌, ◌≢◌, ◌↔◌, Bool, IsTrue, None};
 ghost use Rattle.devices.specs.Sources.{Source, Shows, sealed, held};
@@ -31,8 +31,8 @@ ghost use Rattle.stack_model.specs.Numbers.{Place, nodes, node_of, number};
 ghost use Rattle.stack_model.specs.Attributes.{attr_of, data_start, has_acls, has_xattrs};
 ghost use Rattle.reply_model.specs.Rows.{Row, fitting};
 
-/// A reply is empty, or it begins with its own length, as a word of 32 bits, and carries its
-/// request's unique.
+/// A reply is empty, or it begins with its own length, as a word of 32 bits, and has its request's
+/// unique.
 #[tactic(auto, using(crate::proofs::Headers::headed))]
 pub fn replies_are_headed()
     ensures { (stack : Stacked) (s : Session) (q : Asked) →
@@ -40,8 +40,8 @@ pub fn replies_are_headed()
 {}
 
 /// Over sound images, whose files have lists of extended attributes that Linux allows, a reply has
-/// at most 1 MiB of data behind its header of 16 bytes. So the length
-/// that a reply begins with is its true length, which fits in 32 bits.
+/// at most 1 MiB of data after its header of 16 bytes. So the length that a reply begins with is
+/// its true length, which fits in 32 bits.
 #[tactic(auto, using(crate::proofs::Lengths::short, crate::proofs::Lengths::said))]
 pub fn replies_are_short()
     ensures short { (bs : List (List ℕ)) (stack : Stacked) → All (IsSound Usual) bs →
@@ -62,8 +62,8 @@ pub fn fitting_rows_are_the_first()
 {}
 
 /// A lookup is counted exactly if an entry is answered: LOOKUP adds one for the node whose entry
-/// its reply holds, and READDIRPLUS one for the node of each row in its reply but `.` and `..`;
-/// nothing for an error or a negative entry.
+/// its reply holds, and READDIRPLUS one for the node of each row in its reply except `.` and `..`;
+/// errors and negative entries add none.
 #[tactic(auto, using(crate::proofs::Given::given))]
 pub fn entries_are_given()
     ensures lookup { (stack : Stacked) (s : Session)
@@ -80,8 +80,8 @@ pub fn entries_are_given()
         is_fresh s ≡ true → moves stack s q ≡ [] }
 {}
 
-/// Requests may be taken in parts: their replies and moves are those of the parts, the session
-/// carried along, and a balance is the sum of the parts' balances.
+/// Requests may be split into parts: their replies and moves are those of the parts, with the
+/// session carried along, and a balance is the sum of the parts' balances.
 #[tactic(auto, using(crate::proofs::Balances::parts))]
 pub fn parts_of_a_stream_add_up()
     ensures replies { (answered : Session → Asked → List ℕ) (s : Session) (qs rs : List Asked) →
@@ -93,7 +93,7 @@ pub fn parts_of_a_stream_add_up()
         balance node (ms ++ ns) ≡ balance node ms +ℤ balance node ns }
 {}
 
-/// A DESTROY leaves all balances.
+/// DESTROY leaves all balances unchanged.
 #[tactic(auto, using(crate::proofs::Given::destroy_leaves))]
 pub fn destroy_leaves_balances()
     ensures { (stack : Stacked) (s : Session)
@@ -103,9 +103,10 @@ pub fn destroy_leaves_balances()
         ≡ balance n (moves_by (moves stack) s qs) }
 {}
 
-/// Served lastingly, a stream is replied as it is usually but for four things: other terms of INIT;
-/// a LOOKUP that finds no entry; OPEN and OPENDIR; FLUSH. What requests move stays as it is, since
-/// a name that is none is no lookup; sessions go on alike, and a stream leaves the same balances.
+/// In a lasting session the replies to a stream are the usual ones except for four things: the
+/// terms of INIT; a LOOKUP that finds no entry; OPEN and OPENDIR; FLUSH. Requests move the same
+/// lookups, since a name without an entry gives none; sessions change alike, and a stream leaves
+/// the same balances.
 #[tactic(auto, using(crate::proofs::Lasting::lasting))]
 pub fn lasting_replies_differ_in_four_ways()
     ensures replies { (stack : Stacked) (s : Session) (q : Asked) →
@@ -122,8 +123,8 @@ pub fn lasting_replies_differ_in_four_ways()
         ≡ balance_after stack Fresh messages node }
 {}
 
-/// Whether a request for extended attributes is answered ENOSYS depends on the stack alone, never
-/// on a node or name: it is if no node has any.
+/// Whether a request for extended attributes gets ENOSYS depends only on the stack, never on a node
+/// or name: it does if no node has any.
 #[tactic(auto, using(crate::proofs::Served::served))]
 pub fn attributes_are_served_or_not()
     ensures { (stack : Stacked) (s : Session) (node : ℕ) (op : Op) →
@@ -146,7 +147,7 @@ pub fn attributes_fit_the_size()
         ≤ OUT_HEADER_SIZE + size }
 {}
 
-/// A listing has exactly the names that GETXATTR finds a value for.
+/// A listing has exactly the names for which GETXATTR finds a value.
 #[tactic(auto, using(crate::proofs::Xattrs::listed))]
 pub fn listed_names_have_values()
     ensures { (acls : Bool) (name : List ℕ) (xs : List Extended) →
@@ -164,10 +165,10 @@ pub fn attributes_fit_their_fields()
 {}
 
 /// Data that are read from sources which show the layers' bytes are those that are defined: the
-/// reply is the defined one, or to a READ of data EIO. If the sources lack none of these bytes it
-/// is the defined one, as of bytes in memory, and of files under a digest that are the named ones.
-/// Under a digest each byte of data is of a block for which the digest vouches, whatever the files
-/// give.
+/// reply is the defined one, or EIO for a READ of data. If the sources lack none of these bytes it
+/// is the defined one: for bytes in memory, and for files under a digest that are the named ones.
+/// Under a digest each byte of data is from a block for which the digest vouches, whatever the
+/// files return.
 pub fn data_are_told_as_shown()
     ensures shown { (stack : Stacked) (sources : List Source) → AreShown sources stack.layers →
         (s : Session) (q : Asked) (bytes : List ℕ) →

@@ -1,6 +1,6 @@
 //! Lookups, which a client holds until it forgets them.
 
-/// What a request does to the number of lookups of a node that the client holds.
+/// The change that a request makes to the number of lookups of a node that the client holds.
 #[derive(Clone, Copy, PartialEq, Eq)]
 pub struct Move {
     /// The node's number.

@@ -1,11 +1,11 @@
-//! Sessions, and what a client and the server agree on as they begin one.
+//! Sessions, and what a client and the server agree on at their beginning.
 
 /// Whether a stream has agreed on its protocol version, and on what else. A stream begins `Fresh`;
-/// one that is served lastingly begins `LastingFresh`, and its client learns that the tree never
-/// changes, and asks for each thing once.
+/// a lasting stream begins `LastingFresh`, and its client learns that the tree never changes, and
+/// asks for each thing once.
 #[derive(Clone, Copy, PartialEq, Eq)]
 pub enum Session {
-    /// No INIT was accepted yet, or DESTROY followed.
+    /// No INIT has been accepted, or DESTROY followed.
     Fresh,
     /// An INIT was accepted.
     Ready {
@@ -14,17 +14,17 @@ pub enum Session {
         /// Whether it sent `FUSE_POSIX_ACL`; then it gets access control lists, which it enforces.
         acls: bool,
     },
-    /// As `Fresh`, of a stream that is served lastingly.
+    /// Like `Fresh`, for a lasting stream.
     LastingFresh,
-    /// As `Ready`, of a stream that is served lastingly.
+    /// Like `Ready`, for a lasting stream.
     LastingReady {
         /// Whether the client sent `FUSE_EXPORT_SUPPORT`; then LOOKUP also finds `.` and `..`.
         export: bool,
         /// Whether it sent `FUSE_POSIX_ACL`; then it gets access control lists, which it enforces.
         acls: bool,
-        /// Whether it sent `FUSE_NO_OPEN_SUPPORT`; then it need not ask to open files.
+        /// Whether it sent `FUSE_NO_OPEN_SUPPORT`; then it need not send OPEN.
         no_open: bool,
-        /// Whether it sent `FUSE_NO_OPENDIR_SUPPORT`; then it need not ask to open directories.
+        /// Whether it sent `FUSE_NO_OPENDIR_SUPPORT`; then it need not send OPENDIR.
         no_opendir: bool,
     },
 }
@@ -32,14 +32,14 @@ pub enum Session {
 /// What a client and the server have agreed on in a session.
 #[derive(Clone, Copy, PartialEq, Eq)]
 pub struct Agreement {
-    /// Whether the stream is served lastingly.
+    /// Whether the stream is lasting: its client learns that the tree never changes.
     pub lasting: bool,
-    /// Whether LOOKUP finds `.` and `..` too.
+    /// Whether LOOKUP also finds `.` and `..`.
     pub export: bool,
     /// Whether the client enforces access control lists, if the tree has any.
     pub acls: bool,
-    /// Whether the client need not ask to open files.
+    /// Whether the client need not send OPEN.
     pub no_open: bool,
-    /// Whether it need not ask to open directories.
+    /// Whether it need not send OPENDIR.
     pub no_opendir: bool,
 }

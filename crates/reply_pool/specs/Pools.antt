@@ -5,7 +5,7 @@ use denote.Ref.{Bor}
 use Rattle.reply_model.specs.declared.session.Session.{Session}
 use Rattle.reply_rounds.specs.Spread.{IsSpreadable}
 
--- workers that are called with a stream, a session and how many of its first messages: they take
+-- workers that are called with a stream, a session and how many of its first messages: they accept
 -- what may be spread out, and their result is complete and answers the stream
 pub record SpreadsRounds {F P E : Type 0}
     (calls : Shared F (Bor (List ℕ) × (Session × (ℕ × Unit {0}))) (Result P E)) (workers : F)

@@ -34,7 +34,7 @@ pub(crate) fn answer_jobs<A: Allocator, D: Contents, B: Allocator + Copy>(
     Ok(Rounded { bytes, moves })
 }
 
-// Appends the reply to a job, and what it moves.
+// Appends the reply to a job, and the lookups that it moves.
 fn answer_job<A: Allocator, D: Contents, B: Allocator>(
     served: Served<'_, A, D>,
     job: &(Session, Request<'_>),
@@ -55,7 +55,7 @@ fn answer_job<A: Allocator, D: Contents, B: Allocator>(
     moves(served.table, *session, request, moved)
 }
 
-// A request has few items, which bounds what it moves. This function only states that.
+// A request has few items, which bounds the lookups that it moves. This function only states that.
 fn few_items_of(request: &Request<'_>)
     ensures { HasFewItems (asked_of request.now).op }
 {

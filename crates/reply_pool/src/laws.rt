@@ -1,4 +1,4 @@
-//! What sums of moves mean, and what callers' own workers come to.
+//! What sums of moves mean, and what callers' own workers produce.
 
 ghost use Rattle.std.specs.Prelude.{◌≡◌, ◌<◌, ◌≤◌, ℕ, List, length};
 ghost use Rattle.draw_board.specs.Hands.{total_of};
@@ -16,17 +16,17 @@ use reply_model::Session;
 use reply_rounds::Piece;
 use std::alloc::Allocator;
 
-/// Moves have one list of sums.
+/// Moves have exactly one list of sums.
 #[tactic(auto, using(reply_rounds::proofs::Ordered::one_form))]
 pub fn sums_are_one()
     ensures { (moves xs ys : List Move) → AreSums moves xs → AreSums moves ys → xs ≡ ys }
 {}
 
-/// Hands that share a board with one table, the same jobs and one size of batches, and that draw by
-/// [`work`](crate::work) alone, at least once, and never without memory: when they are rejoined
-/// into the last hand, with which the board is closed, their pieces are each batch once, and none
-/// is left out. In the order of their numbers they have the bytes of [`round`](crate::round), and
-/// move of each node what it sums up.
+/// If hands share a board, with one table, the same jobs and one size of batches, draw only by
+/// [`work`](crate::work), at least once and never without memory, and are then rejoined into the
+/// last hand, which closes the board, their pieces are each batch once, and none is left out. In
+/// the order of their numbers they have the bytes of [`round`](crate::round), and move of each node
+/// what it sums up.
 pub fn each_batch_once<A: Allocator, D: Contents, B: Allocator, C: Allocator>(
     served: Served<'_, A, D>,
     jobs: &[(Session, Request<'_>)],

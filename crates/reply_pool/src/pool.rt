@@ -17,11 +17,11 @@ use reply_rounds::{Gathered, LookupsAhead, Plan, pass_batch, worth_workers};
 use serve_loop::{AnswersOne, AnswersRounds, RoundEnd, walk};
 use std::alloc::{AllocError, Allocator};
 
-/// What answers requests over a table by a plan, and the files of its layers. A gate is passed
-/// before the first request of each batch.
+/// Answers requests over a table and the files of its layers, by a plan. A gate is passed before
+/// the first request of each batch.
 ///
-/// A round that is worth workers is answered by these, as [`spread_out`](crate::spread_out) does
-/// it; any other on the caller's thread.
+/// A round that is worth workers is answered by them, as [`spread_out`](crate::spread_out) does it;
+/// any other on the caller's thread.
 #[derive(Drop)]
 pub struct Pool<'a, A: Allocator, D, G: Gate, F> {
     served: Served<'a, A, D>,
@@ -30,13 +30,13 @@ pub struct Pool<'a, A: Allocator, D, G: Gate, F> {
     gate: &'a G,
     // Answers this many of the first messages of a stream, by workers.
     workers: F,
-    // Of how many of the first nodes balances are kept.
+    // The number of first nodes for which balances are kept.
     counted: u64,
 }
 
 impl<'a, A: Allocator, D: Contents, G: Gate, F> Pool<'a, A, D, G, F> {
     /// Answers over this table and these files, by this plan, with these workers. Streams begin in
-    /// the session `first`. Balances are kept of this many of the first nodes.
+    /// the session `first`. Balances are kept for this many of the first nodes.
     pub fn new(
         served: Served<'a, A, D>,
         first: Session,
@@ -78,7 +78,7 @@ impl<'a, A: Allocator, D: Contents, G: Gate, F> Pool<'a, A, D, G, F> {
     }
 }
 
-// What answers the messages of one round on the caller's thread, with what was read ahead of them.
+// Answers the messages of one round on the caller's thread, with what was read ahead for them.
 #[derive(Drop)]
 struct CallersThread<'r, A: Allocator, D, G: Gate> {
     served: Served<'r, A, D>,
@@ -88,7 +88,7 @@ struct CallersThread<'r, A: Allocator, D, G: Gate> {
     ahead: LookupsAhead,
 }
 
-// One message, as `walk` asks for it.
+// One message, as `walk` requires it.
 impl<'r, A: Allocator, D: Contents, G: Gate> AnswersOne for CallersThread<'r, A, D, G> {
     ghost answering = { λ round. answering_from round.first (sourced_by D.source round.served) };
 

@@ -1,7 +1,7 @@
 //! A round of a stream, answered by several workers.
 //!
-//! The first messages of the stream are read as jobs, and the workers draw batches of these. The
-//! pieces that they give back, `reply_rounds` appends to the loop's replies.
+//! The first messages of the stream are read as jobs, and the workers draw batches of these.
+//! `reply_rounds` appends the pieces that they return to the loop's replies.
 
 ghost use Rattle.std.specs.Prelude.{◌<◌, ◌≤◌, ◌^◌, ◌⊎◌, drop, length, IfOk};
 ghost use Rattle.serve_loop.specs.declared.limits.TheConstants.{MAX_ROUND_MESSAGES};
@@ -21,7 +21,7 @@ use serve_loop::RoundEnd;
 use std::alloc::{AllocError, Allocator};
 use std::thread::Threads;
 
-// The first messages of a stream as jobs, and how far they go.
+// The first messages of a stream as jobs, and where they end.
 #[derive(Drop)]
 struct Taken<'a, A: Allocator> {
     jobs: Vec<(Session, Request<'a>), A>,
@@ -30,7 +30,7 @@ struct Taken<'a, A: Allocator> {
 
 /// Answers this many of the first messages of a stream, or as many as are complete: 1 to 256 of
 /// them, by workers of a plan. The batches are the plan's, or smaller to give each worker one.
-/// `AllocError` only if memory was refused, in any thread.
+/// `AllocError` only if memory is refused, in any thread.
 pub fn spread_out<
     R: Threads + Sync,
     A: Allocator + Copy + Send + Sync,
@@ -96,7 +96,7 @@ fn take_jobs<'a, A: Allocator>(
     Ok(Taken { jobs, round })
 }
 
-// How many jobs a batch has, of this many in all: the plan's number, or fewer.
+// How many jobs a batch has, if there are this many in all: the plan's number, or fewer.
 fn batch_size(plan: Plan, jobs: usize) -> u32
     requires { jobs ≤ MAX_ROUND_MESSAGES }
     ensures some { 1 ≤ result }

@@ -23,8 +23,8 @@ use std::thread::Threads;
 ///
 /// The jobs are requests, each with the session before it: at most 256, in batches of 1 to 256;
 /// number k has those from k times `size` on. The board's total is the number of batches. Threads
-/// may share one board, each with a hand of its own. `AllocError` only if memory was refused; what
-/// was drawn until then remains the hand's, and no other worker answers it.
+/// may share one board, each with a hand of its own. `AllocError` only if memory is refused; what
+/// was drawn until then remains with the hand, and no other worker answers it.
 pub fn work<
     R: Threads + Sync,
     A: Allocator,

@@ -32,9 +32,9 @@ use std::thread::{Threads, join};
 /// Answers jobs, which are requests, each with the session before it: at most 256 of them.
 ///
 /// Batch k holds the jobs from k times the plan's batch on; the gate is passed before its first
-/// answer. As many workers as the plan has, but no more than there are batches, draw the batches as
-/// they come free; a worker that cannot be started is done by its caller. For every plan the result
-/// is the same. `AllocError` only if memory was refused, in any thread.
+/// answer. As many workers as the plan has, but no more than there are batches, draw batches
+/// whenever they are free; the caller does the work of a worker that cannot be started. For every
+/// plan the result is the same. `AllocError` only if memory is refused, in any thread.
 pub fn round<
     R: Threads + Sync,
     A: Allocator + Copy + Send + Sync,
@@ -89,7 +89,7 @@ pub(crate) fn answer_batches<
 }
 
 /// Draws in this many workers at the same time until nothing is left, each with a hand of its own,
-/// and gives their pieces and the hand that all hands were rejoined into.
+/// and returns their pieces and the hand into which all hands were rejoined.
 #[cycle(crew)]
 fn draw_all<
     R: Threads + Sync,
@@ -151,7 +151,7 @@ fn draw_all<
     (both(pieces, more), hand)
 }
 
-// The pieces of two hands, if neither lacked memory.
+// The pieces of two hands, if neither lacks memory.
 fn both<A: Allocator>(
     pieces: Result<Vec<Piece<A>, A>, AllocError>,
     more: Result<Vec<Piece<A>, A>, AllocError>,

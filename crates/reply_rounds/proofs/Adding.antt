@@ -1,5 +1,5 @@
--- Pieces, appended and added to balances one after another: `bytes_on` and `moves_on` put one more
--- behind those so far, and `next_light` says that these and the next weigh no more than all.
+-- Pieces, appended and added to balances one after another: `bytes_on` and `moves_on` add one more after those so far, and `next_light`
+-- says that these and the next weigh no more than all.
 use Rattle.std.proofs.Common.{◌≡◌, ◌∙◌, sym, ap, subst, ℕ, ◌+◌, ◌<◌, ◌≤◌, ℤ, List, ◌++◌, length, take, drop, arith, append_assoc, take_all, get_or}
 use Rattle.std.specs.List.{flat_map}
 use Rattle.std.proofs.lemmas.Grind.{flat_map-append}

@@ -1,6 +1,5 @@
--- Jobs in batches, and pieces in the order of their numbers. `all_in` and `all_moved` are the
--- main lemmas: pieces that each say what their batch says, say together what all jobs say. The
--- first lemmas are the numbers of batches.
+-- Jobs in batches, and pieces in the order of their numbers. `all_in` and `all_moved` are the main lemmas: pieces that each give what their
+-- batch gives, together give what all jobs give. The first lemmas are about the numbers of batches.
 use Rattle.std.proofs.Common.{lt_of_not-le, mul-le-mul_right, ◌≡◌, ℕ, zero, suc, ◌+◌, ◌-◌, ◌*◌, ◌/◌, ◌<◌, ◌≤◌, List, [], ◌∷◌, ◌++◌, length, take, drop, sym, ap, subst, ◌∙◌, arith, map}
 use mathlib.Core.Logic.{dite}
 use native.Mathlib.Decide.{dec_le}
@@ -28,7 +27,7 @@ begins_within jobs size number some below =
 pub reaches_end : (jobs size : ℕ) → 1 ≤ size → jobs ≤ (jobs + size - 1) / size * size
 reaches_end jobs size some = let d : jobs + size - 1 < (jobs + size - 1) / size * size + size = lt-div-mul-add some in omega arith
 
--- jobs have no more batches than a round has messages, where they are no more
+-- jobs have no more batches than a round has messages, if they are no more than these
 pub batches_few : (jobs size : ℕ) → 1 ≤ size → jobs ≤ MAX_ROUND_MESSAGES → (jobs + size - 1) / size ≤ MAX_ROUND_MESSAGES
 batches_few jobs size some few = dite (dec_le ((jobs + size - 1) / size) MAX_ROUND_MESSAGES) (λ d. d) (λ d. let more : MAX_ROUND_MESSAGES
     + 1 ≤ (jobs + size - 1) / size =
@@ -57,7 +56,7 @@ tail_is : (x y : ℕ) (xs ys : List ℕ) → x ∷ xs ≡ y ∷ ys → xs ≡ ys
 tail_is x y xs ys e = cc
 
 module _ {P X : Type 0} (number : P → ℕ) (size : ℕ) (jobs : List X) where
-  -- pieces that each stand in a relation to their batch stand together in it to all jobs, where it goes over to lists put together
+  -- if each piece is in a relation to its batch, and the relation is kept when lists are joined, all pieces are in it to all jobs
   pub all_in : {Y : Type 0} (Is : List X → List Y → Type 0) (none : Is [] [])
       (on : (xs ys : List X) (a b : List Y) → Is xs a → Is ys b → Is (xs ++ ys) (a ++ b)) (put : P → List Y) (l : List P) (k n : ℕ)
       → map number l ≡ range_with_len k n
@@ -97,7 +96,7 @@ module _ {P X : Type 0} (number : P → ℕ) (size : ℕ) (jobs : List X) where
       ∙ flat_map-append told (part size jobs k) (drop ((k + 1) * size) jobs)) in
       omega (arith, ints)
 
--- light pieces weigh so much together
+-- light pieces are light together
 pub weight_all : {P : Type 0} (put : P → List Move) (limit : ℕ) (l : List P) → All (λ p. weight (put p) ≤ limit) l → weight (flat_map put l)
     ≤ limit * length l
 weight_all put limit [] each = omega arith

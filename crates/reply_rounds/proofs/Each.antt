@@ -1,6 +1,5 @@
--- Numbers that stand each once, in whatever order. The main lemma is `in_order`: a list that does
--- not fall and has each number of a range once is the range, since it can neither begin below it
--- nor beyond.
+-- Numbers that each occur once, in any order. The main lemma is `in_order`: a list that does not fall and has each number of a range once
+-- is the range, since it can begin neither below it nor beyond.
 use Rattle.std.proofs.Common.{◌≡◌, ℕ, zero, suc, ◌+◌, ◌<◌, ◌≤◌, ◌≢◌, cond, eqb, List, [], ◌∷◌, refl, ap, arith, eq-eqb, ne_eqb, lt_of_not-le, map}
 use mathlib.Core.Logic.{dite}
 use native.Mathlib.Decide.{dec_le}
@@ -19,11 +18,11 @@ one-same y x e = ap (λ b. cond b 1 0) (eq-eqb y x e)
 one-other : (y x : ℕ) → y ≢ x → one y x ≡ 0
 one-other y x n = ap (λ b. cond b 1 0) (ne_eqb y x n)
 
--- a number stands in a list as often as at its front and behind that
+-- a number occurs in a list as often as at its front and after that
 pub times-cons : (x y : ℕ) (l : List ℕ) → times x (y ∷ l) ≡ one y x + times x l
 times-cons x y l = sum_by-cons (λ z. one z x) y l
 
--- no number below a range stands in it
+-- no number below a range occurs in it
 below : (x a n : ℕ) → x < a → times x (range_with_len a n) ≡ 0
 below x a zero h = refl
 below x a (suc n) h = omega (
@@ -34,7 +33,7 @@ below x a (suc n) h = omega (
 )
 
 module _ {P : Type 0} (number : P → ℕ) where
-  -- a number below the first of a list that does not fall does not stand in it
+  -- a number below the first of a list that does not fall does not occur in it
   none_before : (p : P) (l : List P) (x : ℕ) → IsNonDecreasingBy number (p ∷ l) → x < number p → times x (map number (p ∷ l)) ≡ 0
   none_before p [] x up h = omega (arith, times-cons x (number p) [], one-other (number p) x (λ e. omega arith))
   none_before p (q ∷ l) x up h =

@@ -1,6 +1,5 @@
--- Pieces and the hands that drew their numbers. A worker's pieces have the numbers of its hand; so
--- have those of joined hands (`both_all`), and of the last hand each number once. So `every_batch`
--- answers all, and `rounds` makes a round of it.
+-- Pieces and the hands that drew their numbers. A worker's pieces have the numbers of its hand, those of joined hands have theirs
+-- (`both_all`), and those of the last hand have each number once. So `every_batch` answers all, and `rounds` makes a round of it.
 use Rattle.std.proofs.Common.{◌≡◌, ℕ, zero, suc, nat_lt, cond, lt-ltb, le-ltb, lt_of_not-le, append-nil, Option, Some, None, ◌^◌, ◌+◌, ◌*◌, ◌<◌, ◌≤◌, max, List, [], ◌∷◌, ◌++◌, length, drop, sym, ap, subst, refl, ◌∙◌, arith, Result, Ok, Err, IfOk, Vec}
 use Rattle.fuse_wire.specs.Appends.{Filled}
 use Rattle.std.specs.List.{All, flat_map, range_with_len}
@@ -32,7 +31,7 @@ use Rattle.reply_rounds.proofs.Batched.{all_in, all_moved, reaches_end, weight_a
 use Rattle.reply_rounds.proofs.Each.{in_order, one}
 use Rattle.reply_rounds.proofs.Told.{both_replied}
 
--- a number stands in two lists as often as in the one and in the other
+-- a number occurs in two lists as often as in the one and in the other
 pub times-append : (x : ℕ) (xs ys : List ℕ) → times x (xs ++ ys) ≡ times x xs + times x ys
 times-append x xs ys = sum_by-append (λ z. one z x) xs ys
 
@@ -46,7 +45,7 @@ all_reached jobs size some =
     let r = reaches_end (length jobs) size some in
     omega arith
 
--- how often a number stands among those of two parts
+-- how often a number occurs among those of two parts
 numbers_told : (total x : ℕ) (xs ys : List ℕ) → times x (numbers total (xs ++ ys)) ≡ times x (numbers total xs) + times x (numbers total ys)
 numbers_told total x xs ys = ap (times x) (filter-append (λ position. nat_lt position total) xs ys)
     ∙ times-append x (numbers total xs) (numbers total ys)
@@ -87,7 +86,7 @@ module _ {A : Type 0} where
   abbrev number : Piece A → ℕ
   number piece = piece.number
 
-  -- how often a number stands among pieces of two parts
+  -- how often a number occurs among pieces of two parts
   parts_told : (x : ℕ) (xs ys : List (Piece A)) → times x (numbers_of (xs ++ ys)) ≡ times x (numbers_of xs) + times x (numbers_of ys)
   parts_told x xs ys = ap (times x) (map-append number xs ys) ∙ times-append x (numbers_of xs) (numbers_of ys)
 
@@ -97,12 +96,12 @@ module _ {A : Type 0} where
   order_told pieces ordered o x = sum_by-IsPermutation (λ z. one z x) (numbers_of pieces) (numbers_of ordered)
       (IsPermutation-map number pieces ordered o.same)
 
-  -- where each number below a count stands once, the pieces in order have these numbers
+  -- if each number below a count occurs once, the pieces in order have these numbers
   pub ordered_numbers : (pieces ordered : List (Piece A)) (n : ℕ) → ((x : ℕ) → times x (numbers_of pieces) ≡ times x (range_with_len 0 n))
       → AreOrdered pieces ordered → numbers_of ordered ≡ range_with_len 0 n
   ordered_numbers pieces ordered n once o = in_order number ordered 0 n o.rising (λ x. order_told pieces ordered o x ∙ once x)
 
-  -- the piece of a number that was drawn is put behind the others
+  -- the piece of a number that was drawn is put after the others
   pub told_more : (total : ℕ) (added : List ℕ) (pieces all : List (Piece A)) (piece : Piece A) → piece.number < total
       → all ≡ pieces ++ piece ∷ []
       → numbers_of pieces ≡ numbers total added → numbers_of all ≡ numbers total (added ++ piece.number ∷ [])
@@ -141,7 +140,7 @@ module _ {A : Type 0} where
       subst AreLight (sym m) (All-append (λ (p : Piece A). weight p.moves.items ≤ 2 ^ 104) x.items y.items p q)
 
   module _ (by : Sourced) (jobs : List Job) (size : ℕ) where
-    -- what a batch is answered with is a piece of its number
+    -- the answer to a batch is a piece with its number
     pub piece_of : (rounded : Rounded A) (piece : Piece A) (js : List Job) → IsRounded by js rounded
         → js ≡ batch_of size piece.number jobs
         → piece.bytes ≡ rounded.bytes → piece.moves ≡ rounded.moves → IsPiece by jobs size piece
@@ -180,7 +179,7 @@ module _ {A : Type 0} where
       moves = λ ordered o node. all_move pieces ordered node some each once o;
     }
 
-    -- jobs without a batch want no piece
+    -- jobs without a batch need no piece
     pub no_batch : (pieces : List (Piece A)) → pieces ≡ [] → batches size (length jobs) ≡ 0 → AnswerAll by jobs size pieces
     no_batch pieces none no_number = subst (AnswerAll by jobs size) (sym none) (record {
       once = λ x. ap (λ (n : ℕ). times x (range_with_len 0 n)) (sym no_number);
@@ -202,7 +201,7 @@ module _ {A : Type 0} where
     }
 
     module _ {B : Type 0} (board : Board B) where
-      -- a worker whose hand had drawn nothing has the pieces of its hand
+      -- if a worker's hand had drawn nothing before, the worker has the pieces of its hand
       pub fresh_all : (old new : Hand) (pieces : List (Piece A)) → positions old ≡ [] → HasWorked by jobs size board old new pieces
           → HasAll by jobs size board new pieces
       fresh_all old new pieces fresh w = record {
@@ -222,7 +221,7 @@ module _ {A : Type 0} where
         answered = All-append (IsPiece by jobs size) xs ys a.answered b.answered;
       }
 
-      -- and where both have all theirs, it has all of its own
+      -- and if both have all theirs, it has all of its own
       pub both_all : {E : Type 0} (mine others new : Hand) (r a b : Result (Vec (Piece A) A) E) → Unites (positions mine) (positions others)
           (positions new)
           → seen_below new ≡ max (seen_below mine) (seen_below others) → IfOk r (λ v. AreBoth a b v.items)
@@ -268,7 +267,7 @@ module _ {A : Type 0} where
             seen_both (seen_below old) (seen_below other) (seen_below new) calls more (total_of board) t.seen g.1 h.1,
           )
 
-      -- once the last hand is closed each number stands once
+      -- once the last hand is closed each number occurs once
       pub closed : (hand : Hand) (pieces : List (Piece A)) (draws : ℕ) → AreOf by jobs size board hand pieces
           → total_of board ≤ seen_below hand
           → IsLast hand draws → (x : ℕ) → times x (numbers_of pieces) ≡ times x (range_with_len 0 (total_of board))

@@ -1,6 +1,5 @@
--- A message moves no more than 64 bits say, for each of its bytes: `message_light`. A number in a
--- message is of bytes and thus modest (`op_modest`), and a request with modest numbers moves so
--- little (`moved_light`).
+-- A message moves at most 2^64 lookups for each of its bytes: `message_light`. A number in a message consists of bytes and is therefore
+-- bounded (`op_modest`), and a request with such numbers moves no more (`moved_light`).
 use Rattle.std.proofs.Common.{◌≡◌, sym, ap, subst, ℕ, zero, suc, ◌+◌, ◌-◌, ◌*◌, ◌/◌, ◌^◌, ◌<◌, ◌≤◌, ◌==◌, pos, neg_ℤ, List, [], ◌∷◌, length, map, drop, Bool, true, false, cond, Option, Some, None, refl, arith}
 use Rattle.std.specs.Prelude.{filter, find, is_some, min, nat_le, nat_lt, slice_index, if◌then◌else◌}
 use Rattle.std.specs.List.{AllByRecursion, cons_option, filter_map}
@@ -229,7 +228,7 @@ module _ (stack : Stacked) where
       omega arith
 
   module _ (bytes : ℕ) (some : 1 ≤ bytes) (agreed : Agreement) (node : ℕ) where
-    -- where each node gives nothing, none does
+    -- if each node gives nothing, none does
     nothing_given : (o : Option Place) → weight (option_map_or (λ (p : Place). let none : List Move = [] in none) o []) ≤ 2 ^ 64 * bytes
     nothing_given None = omega arith
     nothing_given (Some p) = omega arith

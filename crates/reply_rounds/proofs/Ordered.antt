@@ -1,5 +1,5 @@
--- Sums by node: a list of them has one form, `one_form`. Two of them begin with the same node, as
--- neither has one below the other's, and go on so.
+-- Sums by node: a list of them has one form, `one_form`. Two of them begin with the same node, as neither has one below the other's, and
+-- continue so.
 use Rattle.std.proofs.Common.{◌≡◌, ◌≢◌, ◌∙◌, sym, ap, ℕ, ◌<◌, ◌==◌, inl, inr, ℤ, pos, List, [], ◌∷◌, Bool, true, false, cond, refl, arith, eq-eqb}
 use Rattle.std.specs.List.{AllByRecursion}
 use Rattle.std.proofs.lemmas.Bool.{eqb-true, cases_order}

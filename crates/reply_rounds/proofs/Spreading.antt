@@ -1,6 +1,5 @@
--- A round of a stream by workers: `by_jobs`. Messages say what their jobs say (`jobs_told`,
--- `jobs_moved`), pieces of all batches what the jobs say (Hands), and what was appended is what the
--- pieces say; so it is a round of the messages.
+-- A round of a stream by workers: `by_jobs`. Messages mean what their jobs mean (`jobs_told`, `jobs_moved`), pieces of all batches what the
+-- jobs mean (Hands), and what was appended is what the pieces contain; so it is a round of the messages.
 use Rattle.std.proofs.Common.{◌≡◌, ◌∙◌, sym, ap, subst, ℕ, zero, suc, ◌+◌, ◌<◌, ◌≤◌, ◌⊎◌, inl, inr, ℤ, ◌+ℤ◌, List, [], ◌∷◌, ◌++◌, length, map, take, drop, refl, arith, length-append}
 use Rattle.std.specs.Prelude.{slice_index}
 use Rattle.std.proofs.lemmas.List.{map-append}
@@ -28,7 +27,7 @@ use Rattle.reply_rounds.specs.Spread.{AnswerAll, AreAppended, AreFirstJobs, AreJ
 use Rattle.reply_rounds.proofs.Hands.{all_move, whole}
 use Rattle.reply_rounds.proofs.Light.{AreBytes, message_light}
 
--- one message more, as a job behind the others
+-- one more message, as a job after the others
 pub jobs_on : (s : Session) (ms : List (List ℕ)) (js : List Job) (m : List ℕ) (j : Job) → AreJobs s ms js
     → j.0 ≡ session_at s (map asked ms) → asked_of j.1 ≡ asked m → AreJobs s (ms ++ m ∷ []) (js ++ j ∷ [])
 jobs_on s [] [] m j a e f = (e, f, tt)
@@ -42,7 +41,7 @@ pub none_taken : (s : Session) (stream : List ℕ) (js : List Job) → js ≡ []
 none_taken s stream js none = subst (AreFirstJobs s stream (record { used = 0; messages = 0; session = s })) (sym none)
     (record { messages = []; first = none_first stream; count = refl; session = refl; as_jobs = tt })
 
--- one message more, as the code cuts it
+-- one more message, as the code cuts it
 pub one_taken : (s : Session) (stream : List ℕ) (round : RoundEnd) (js all : List Job) (rest : List ℕ) (len : ℕ) (after : Session)
     (job : Job)
     → AreFirstJobs s stream round js → rest ≡ drop round.used stream → BeginsMessage rest len → job.0 ≡ round.session
@@ -139,7 +138,7 @@ by_jobs first by s stream round jobs size pieces old new some bytes f o a p = (
   },
 )
 
--- the same of what workers gave back
+-- the same for what workers returned
 pub by_spread : {A : Type 0} (first : Session) (by : Sourced) (s : Session) (stream : List ℕ) (spread : RoundPieces A) (old new : Output)
     → SpreadsFrom by s stream spread → AreAppended spread.pieces.items old new
     → AppendsRound (answering_from first by) s stream spread.round old new

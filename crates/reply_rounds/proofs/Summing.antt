@@ -1,4 +1,4 @@
--- Moves summed from the front on, where their nodes do not fall. `none_summed` to `all_summed` are
+-- Moves summed from the front on, if their nodes do not fall. `none_summed` to `all_summed` are
 -- the loop: a move is added to its node's sum or begins a higher one. The last lemma,
 -- `sums_permuted`, lets moves be sorted before.
 use Rattle.std.proofs.Common.{◌≡◌, ◌≢◌, ◌∙◌, sym, ap, subst, ℕ, ◌+◌, ◌<◌, ◌≤◌, ◌^◌, ◌==◌, inl, inr, ℤ, pos, negsuc, neg_ℤ, ◌+ℤ◌, unsigned_abs, List, [], ◌∷◌, ◌++◌, length, get_or, take, Bool, true, false, cond, refl, arith}
@@ -39,7 +39,7 @@ ascending_front : (xs : List Move) (a : Move) → AreAscending (xs ++ a ∷ []) 
 ascending_front [] a h = tt
 ascending_front (x ∷ xs) a h = (all_front (λ n. x.node < n.node) xs a h.0, ascending_front xs a h.1)
 
--- in place of the last one there may be a higher one
+-- instead of the last one there may be a higher one
 ascending_higher : (xs : List Move) (a b : Move) → a.node ≤ b.node → AreAscending (xs ++ a ∷ []) → AreAscending (xs ++ b ∷ [])
 ascending_higher [] a b le h = (tt, tt)
 ascending_higher (x ∷ xs) a b le h =
@@ -47,7 +47,7 @@ ascending_higher (x ∷ xs) a b le h =
     let higher : x.node < b.node = omega arith in
     (all_push (λ n. x.node < n.node) xs b (all_front (λ n. x.node < n.node) xs a h.0) higher, ascending_higher xs a b le h.1)
 
--- behind the last one there may be a higher one
+-- after the last one there may be a higher one
 ascending_on : (xs : List Move) (a b : Move) → a.node < b.node → AreAscending (xs ++ a ∷ []) → AreAscending ((xs ++ a ∷ []) ++ b ∷ [])
 ascending_on [] a b lt h = ((lt, tt), (tt, tt))
 ascending_on (x ∷ xs) a b lt h =
@@ -66,7 +66,7 @@ none_of : (b : Bool) (a : ℤ) → a ≡ pos 0 → cond b a (pos 0) ≡ pos 0
 none_of true a is = is
 none_of false a is = refl
 
--- where no move came yet, nothing is put and the sum under way is 0
+-- if no move came yet, nothing is put and the sum under way is 0
 pub none_summed : (sum : Move) → sum.amount ≡ pos 0 → AreSummed [] [] sum
 none_summed sum zero = record {
   each = λ node. (let e = none_of (sum.node == node) sum.amount zero in omega (arith, ints));

@@ -6,8 +6,9 @@ use Rattle.reply_model.specs.Moves.{moves}
 use Rattle.reply_model.specs.Readings.{Sourced, in_memory, reading_of}
 use Rattle.serve_loop.specs.Rounds.{Answering}
 
--- requests are replied to, and move lookups, as FUSE has it over the stack's layers and shown
--- paths, from the session on that a stream begins in; data are read from the sources of layers
+-- requests are replied to, and move lookups, by the definitions of FUSE over the stack's layers and
+-- shown paths, from the session on in which a stream begins; data are read from the sources of
+-- layers
 abbrev pub answering_from : Session → Sourced → Answering
 answering_from first by = record {
   first = first;

@@ -1,4 +1,4 @@
--- Jobs in batches, and the pieces that batches are answered with.
+-- Jobs in batches, and the pieces that answer batches.
 use Rattle.std.specs.Prelude.{◌≡◌, ℕ, ◌+◌, ◌-◌, ◌*◌, ◌/◌, ◌^◌, ◌≤◌, List, take, drop, map}
 use Rattle.std.specs.List.{All, flat_map, range_with_len}
 use Rattle.std.specs.List.Sorted.{IsPermutation, IsNonDecreasingBy}
@@ -19,14 +19,14 @@ batches size jobs = (jobs + size - 1) / size
 abbrev pub batch_of : ℕ → ℕ → List Job → List Job
 batch_of size number jobs = take size (drop (number * size) jobs)
 
--- a batch's replies one after another, and the sums of what its jobs move by node
+-- a batch's replies one after another, and the sums of its jobs' moves by node
 pub record IsPiece {A : Type 0} (by : Sourced) (jobs : List Job) (size : ℕ)
     (piece : Piece A) : Type 0 where
   pub replies : AreReplied by (batch_of size piece.number jobs) piece.bytes.items
   pub sums : AreSums (flat_map (moved_by by.stack) (batch_of size piece.number jobs))
       piece.moves.items
 
--- what a piece moves in all is far from what 128 bits hold
+-- the moves of a piece add up to far less than 128 bits hold
 abbrev pub AreLight : {A : Type 0} → List (Piece A) → Type 0
 AreLight pieces = All (λ piece. weight piece.moves.items ≤ 2 ^ 104) pieces
 

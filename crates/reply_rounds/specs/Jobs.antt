@@ -28,11 +28,11 @@ AreReplied by (job ∷ jobs) bytes =
     (one : List ℕ) × (rest : List ℕ) × (bytes ≡ one ++ rest) × IsReplyTo by job one
     × AreReplied by jobs rest
 
--- what a job moves
+-- the lookups that a job moves
 abbrev pub moved_by : Stacked → Job → List Move
 moved_by stack job = moves stack job.0 (asked_of job.1)
 
--- the replies to jobs one after another, and the sums of what they move by node
+-- the replies to jobs one after another, and the sums of their moves by node
 pub record IsRounded {A : Type 0} (by : Sourced) (jobs : List Job)
     (rounded : Rounded A) : Type 0 where
   pub replies : AreReplied by jobs rounded.bytes.items

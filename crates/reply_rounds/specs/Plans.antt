@@ -1,4 +1,4 @@
--- What a plan is.
+-- The range of a plan.
 use Rattle.std.specs.Prelude.{◌≡◌, ℕ, ◌≤◌, Option, MatchOption}
 use Rattle.draw_board.specs.declared.limits.TheConstants.{MAX_BATCH, MAX_WORKERS}
 use Rattle.reply_rounds.specs.declared.plan.Plan.{Plan}

@@ -1,4 +1,4 @@
--- A round of a stream as jobs, and what its pieces come to.
+-- A round of a stream as jobs, and the sum of its pieces.
 use Rattle.std.specs.Prelude.{◌≡◌, ℕ, ◌<◌, ◌≤◌, ◌^◌, ◌⊎◌, List, [], ◌∷◌, ◌++◌, length, drop, map, slice_index}
 use Rattle.std.specs.List.{All, flat_map, range_with_len}
 use Rattle.serve_loop.specs.declared.limits.TheConstants.{MAX_ROUND_MESSAGES}

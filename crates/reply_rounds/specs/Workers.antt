@@ -20,7 +20,7 @@ pub record KeepsHand {B : Type 0} (board : Board B) (old new : Hand) : Type 0 wh
   pub added : List ℕ
   pub kept : positions new ≡ positions old ++ added
 
--- as many workers can draw with this hand, which has drawn nothing yet
+-- this many workers can draw with this hand, which has drawn nothing yet
 pub record CanDraw {B : Type 0} (jobs : List Job) (size : ℕ) (board : Board B) (hand : Hand)
     (workers : ℕ) : Type 0 where
   pub few : length jobs ≤ MAX_ROUND_MESSAGES
@@ -47,19 +47,19 @@ pub record AreOf {A B : Type 0} (by : Sourced) (jobs : List Job) (size : ℕ) (b
       → times number (numbers_of pieces) ≡ times number (numbers (total_of board) (positions hand))
   pub answered : All (IsPiece by jobs size) pieces
 
--- the same for a worker's hand that had drawn nothing, once it knows that all was drawn
+-- the same for a worker's hand that had drawn nothing, once all is drawn
 pub record HasAll {A B : Type 0} (by : Sourced) (jobs : List Job) (size : ℕ) (board : Board B)
     (hand : Hand) (pieces : List (Piece A)) : Type 0 where
   pub of_hand : AreOf by jobs size board hand pieces
   pub every : total_of board ≤ seen_below hand
 
--- the pieces of two workers, one after the other, if both gave theirs
+-- the pieces of two workers, one after the other, if both returned theirs
 abbrev pub AreBoth : {A E : Type 0} → Result (Vec (Piece A) A) E → Result (Vec (Piece A) A) E
     → List (Piece A) → Type 0
 AreBoth pieces more all =
     IsOkAnd pieces (λ xs. IsOkAnd more (λ ys. all ≡ xs.items ++ ys.items))
 
--- a hand that draws only by `work`, the pieces from it and from the hands that it took over, and
+-- a hand that draws only with `work`, the pieces from it and from the hands that it took over, and
 -- how many calls there were, each with enough memory
 pub data WorksAlone {A B : Type 0} (by : Sourced) (jobs : List Job) (size : ℕ) (board : Board B)
     : Hand → List (Piece A) → ℕ → Type 0 where

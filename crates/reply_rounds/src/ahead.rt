@@ -3,11 +3,13 @@
 //! A LOOKUP follows numbers through a table that is larger than the processor's caches: from the
 //! directory to a guess, to the row, to the node and to its balance. Here the names of all LOOKUPs
 //! of a round are hashed first; then their guesses are read, then the rows that these point to,
-//! then the nodes and balances of these rows, each in a loop that does little else: none of these
-//! reads waits for that of another request, so they overlap. No answer follows from what is read:
-//! the answer to a LOOKUP gets the place that was guessed for it, and checks whether the row there
-//! has the name. It takes a few steps for each message of the round, as long as every fourth is a
-//! LOOKUP, and no memory. For a small table, which stays in the caches, nothing is read ahead.
+//! then the nodes and balances of these rows, each in a loop that does little else. None of these
+//! reads waits for that of another request, so they overlap.
+//!
+//! No answer depends on what is read: the answer to a LOOKUP gets the place that was guessed for
+//! it, and checks whether the row there has the name. It takes a few steps for each message of the
+//! round, as long as every fourth is a LOOKUP, and no memory. For a small table, which stays in the
+//! caches, nothing is read ahead.
 
 ghost use Rattle.std.specs.Prelude.{◌≤◌};
 ghost use Rattle.serve_loop.specs.declared.limits.TheConstants.{MAX_ROUND_MESSAGES};
@@ -17,21 +19,20 @@ use node_reader::{Guess, Row, Table, hashed};
 use serve_loop::limits::MAX_ROUND_MESSAGES;
 use std::alloc::Allocator;
 
-/// A table with fewer nodes than this stays in the processor's second cache, with some 80 bytes a
-/// node.
+/// A table with fewer nodes than this stays in the processor's second-level cache, with some 80
+/// bytes a node.
 const MANY: u64 = 8_192;
 
-/// By how many LOOKUPs a round may fall short of every fourth message before the search for them
-/// ends.
+/// The search for LOOKUPs ends if they fall short of every fourth message by more than this many.
 const HEAD_START: usize = 4;
 
 /// What was read ahead.
 #[derive(Drop)]
 pub struct LookupsAhead {
-    // Two more than the place where the row of each message may be, if it is a LOOKUP, or 1 if none
-    // was noted; else 0.
+    // For each message, 2 plus the place of its row if it is a LOOKUP, or 1 if no place was noted;
+    // 0 for other messages.
     places: [u32; MAX_ROUND_MESSAGES],
-    // A sum of all that was read, so no compiler drops the reading.
+    // A sum of everything read, so no compiler drops the reads.
     sum: u64,
 }
 
@@ -61,7 +62,7 @@ impl LookupsAhead {
         }
     }
 
-    // The same, of any table.
+    // The same for any table.
     #[inline(never)]
     fn read_all<A: Allocator>(&mut self, table: &Table<A>, stream: &[u8], balances: &[i128]) {
         let mut words = [0; MAX_ROUND_MESSAGES];
@@ -104,7 +105,7 @@ impl LookupsAhead {
 }
 
 // The hashes of the LOOKUPs at the front of a stream, the number of each one's message in its
-// round, and how many they are.
+// round, and how many there are.
 fn hash_all(
     stream: &[u8],
     hashes: &mut [u64; MAX_ROUND_MESSAGES],
@@ -160,8 +161,8 @@ fn row_noted<A: Allocator>(table: &Table<A>, noted: u32) -> Option<&Row<A>> {
     }
 }
 
-// The last byte of a row, or of a long name beside it. That of the row does not wait for the name's
-// length.
+// The last byte of a row, or of a long name beside it. Reading that of the row does not wait for
+// the name's length.
 fn end_of<A: Allocator>(row: &Row<A>) -> u8 {
     match row.padded_name() {
         Some(name) => name[21],

@@ -17,7 +17,7 @@ pub fn count_batches(jobs: usize, size: u32) -> u32
     ((jobs + size - 1) / size) as u32
 }
 
-/// The batch of this number.
+/// The batch with this number.
 pub fn batch<'a, 'b>(
     jobs: &'a [(Session, Request<'b>)],
     size: u32,

@@ -12,7 +12,7 @@ use reply_model::Move;
 use std::alloc::{AllocError, Allocator};
 
 /// The sums of moves by node, in ascending order: each node once with its sum, and none whose sum
-/// is 0. `AllocError` only if memory was refused.
+/// is 0. `AllocError` only if memory is refused.
 pub fn sums<A: Allocator + Copy>(
     alloc: A,
     mut moves: Vec<Move, A>,
@@ -25,7 +25,7 @@ pub fn sums<A: Allocator + Copy>(
     sum_sorted(alloc, &moves)
 }
 
-// The sums of moves whose nodes do not fall.
+// The sums of moves in ascending order of nodes.
 fn sum_sorted<A: Allocator>(alloc: A, moves: &[Move]) -> Result<Vec<Move, A>, AllocError>
     requires sorted { IsNonDecreasingBy (λ m. m.node) moves.now }
     requires light { weight moves.now < 2 ^ 127 }

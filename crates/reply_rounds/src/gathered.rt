@@ -1,4 +1,4 @@
-//! What the workers of a round give back, and how it is appended to the bytes of a loop.
+//! What the workers of a round return, and how it is appended to the bytes of a loop.
 
 ghost use Rattle.std.specs.Prelude.{◌≡◌, ◌≤◌, ◌^◌, ◌++◌, ℕ, List, IfOk, OnOk};
 ghost use Rattle.std.specs.List.{flat_map};
@@ -19,19 +19,19 @@ use std::alloc::{AllocError, Allocator};
 /// Some of the first messages of a stream, answered by workers.
 #[derive(Drop)]
 pub struct RoundPieces<A: Allocator> {
-    /// How far they go.
+    /// Where they end.
     pub round: RoundEnd,
-    /// What their batches are answered with, in the order in which the workers ended.
+    /// The answers to their batches, in the order in which the workers ended.
     pub pieces: Vec<Piece<A>, A>,
 }
 
-/// What workers gave back, to be appended.
+/// What workers returned, to be appended.
 pub trait Gathered {
     ghost whole: { Self → Type 0 };
 
     ghost answers: { Self → Answering → Session → List ℕ → Type 0 };
 
-    /// Appends the replies, and adds what they move to the balances.
+    /// Appends the replies, and adds the lookups that they move to the balances.
     fn append<A: Allocator>(
         self,
         replies: &mut Replies<A>,
@@ -63,7 +63,7 @@ impl<A: Allocator> Gathered for RoundPieces<A> {
     }
 }
 
-// Appends the bytes of pieces one after another, and adds what they move to balances.
+// Appends the bytes of pieces one after another, and adds the lookups that they move to balances.
 fn append_all<A: Allocator, B: Allocator>(
     pieces: &[Piece<A>],
     replies: &mut Replies<B>,

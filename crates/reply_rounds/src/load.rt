@@ -1,12 +1,12 @@
 //! How much work a round is, and whether it is worth workers.
 //!
-//! A worker is started in the time of some hundred ordinary requests. So a round is worth workers
+//! Starting a worker takes as long as some hundred ordinary requests, so a round is worth workers
 //! only if its replies are long. Their lengths come from the table: from the bytes of files and the
 //! rows of directories, never from the size in a request.
 //!
-//! A scan over the first messages adds up what the reply to each is expected to take. It ends as
-//! soon as those so far take less time than their share of a full round that is worth workers:
-//! after five messages of ordinary requests, and at the end of a round with many rows.
+//! A scan over the first messages adds up the expected time of each reply. It stops as soon as the
+//! messages so far take less time than their share of a full round that is worth workers: after
+//! five messages of ordinary requests, and at the end of a round with many rows.
 
 ghost use Rattle.std.specs.Prelude.{◌≤◌, ◌^◌, IfSome};
 ghost use Rattle.serve_loop.specs.declared.limits.TheConstants.{MAX_ROUND_MESSAGES};
@@ -19,27 +19,26 @@ use romfs_format::limits::{MAX_TARGET_SIZE, MAX_XATTR_SIZE};
 use serve_loop::limits::MAX_ROUND_MESSAGES;
 use std::alloc::Allocator;
 
-/// A round is worth workers that one thread answers in this many nanoseconds. Within 2 MiB of
-/// replies READ and READDIRPLUS take less: what workers save on them, one more copy of their
-/// replies costs.
+/// A round is worth workers if one thread needs this many nanoseconds to answer it. Within 2 MiB of
+/// replies READ and READDIRPLUS take less: what workers save, one more copy of their replies costs.
 const WORTH: u64 = 1_000_000;
 
 /// The most bytes of replies of a round that workers answer: 2 MiB.
 const MAX_REPLIES: u64 = 2_097_152;
 
-/// Nanoseconds for each message of a full round that is just worth workers.
+/// Nanoseconds for each message of a full round that is barely worth workers.
 const PACE: u64 = WORTH / MAX_ROUND_MESSAGES as u64;
 
-/// The first messages may take less than their part by so much, which is that of four.
+/// The first messages may take this much less than their share, which is the share of four.
 const HEAD_START: u64 = 4 * PACE;
 
-/// What any reply takes, in nanoseconds, besides its bytes and rows.
+/// The time for any reply, in nanoseconds, without its bytes and rows.
 const REPLY_TIME: u64 = 100;
 
 /// How many bytes of a file are copied in a nanosecond.
 const COPIED: u64 = 8;
 
-/// What a row of READDIR takes, in nanoseconds, and one of READDIRPLUS.
+/// The time for a row of READDIR, in nanoseconds, and for one of READDIRPLUS.
 const PLAIN_ROW_TIME: u64 = 20;
 
 const PLUS_ROW_TIME: u64 = 34;
@@ -47,7 +46,7 @@ const PLUS_ROW_TIME: u64 = 34;
 /// The most bytes of a reply without data and rows: the target of a symbolic link.
 const SHORT_REPLY: u64 = (OUT_HEADER_SIZE as u32 + MAX_TARGET_SIZE) as u64;
 
-/// What the reply to a request is expected to take.
+/// The expected cost of the reply to a request.
 #[derive(Clone, Copy)]
 struct Load {
     // Nanoseconds of one thread.
@@ -83,14 +82,14 @@ pub fn worth_workers<A: Allocator>(table: &Table<A>, stream: &[u8]) -> Option<us
     if WORTH <= time { Some(messages) } else { None }
 }
 
-// Of a reply without data and rows.
+// The load of a reply without data and rows.
 const SHORT: Load = Load {
     time: REPLY_TIME,
     room: SHORT_REPLY,
 };
 
-// What the reply to a request is expected to take. Each opcode is named, so a new one does not
-// compile before its reply is considered.
+// The expected cost of the reply to a request. Each opcode is named, so a new one does not compile
+// before its reply is considered.
 fn expected<A: Allocator>(table: &Table<A>, request: &Request<'_>) -> Load {
     match request.op {
         Op::Read { offset, size } if size <= MAX_DATA_SIZE => {
@@ -113,7 +112,7 @@ fn expected<A: Allocator>(table: &Table<A>, request: &Request<'_>) -> Load {
     }
 }
 
-// For data with this many bytes left.
+// The load of data of which this many bytes remain.
 fn data_load(left: u64, size: u32) -> Load {
     let bytes = left.min(u64::from(size));
     Load {
@@ -122,8 +121,8 @@ fn data_load(left: u64, size: u32) -> Load {
     }
 }
 
-// For rows, this many of which are left. A `struct fuse_dirent` (linux/fuse.h) has 24 bytes and a
-// name, padded to eights: 32 to 280. With its entry a row has 128 bytes more.
+// The load of rows of which this many remain. A `struct fuse_dirent` (linux/fuse.h) has 24 bytes
+// and a name, padded to multiples of 8: 32 to 280. With its entry a row has 128 bytes more.
 #[inline(always)]
 fn rows_load(left: u64, size: u32, with_entries: bool) -> Load {
     let size = u64::from(size);
@@ -139,7 +138,7 @@ fn rows_load(left: u64, size: u32, with_entries: bool) -> Load {
     }
 }
 
-// For the value of an extended attribute, or their names, which are mostly few bytes.
+// The load of the value of an extended attribute, or of their names, which are mostly few bytes.
 fn xattr_load(size: u32) -> Load {
     Load {
         time: REPLY_TIME,
@@ -147,12 +146,12 @@ fn xattr_load(size: u32) -> Load {
     }
 }
 
-// How many are left behind an offset.
+// How many remain after an offset.
 fn left(len: u64, offset: u64) -> u64 {
     if offset < len { len - offset } else { 0 }
 }
 
-// How many bytes a regular file has; 0 of any other node.
+// How many bytes a regular file has; 0 for any other node.
 fn file_size<A: Allocator>(table: &Table<A>, number: u64) -> u64 {
     match table.node(number) {
         Some(node) if node.kind == Kind::Regular => u64::from(node.part.len),

@@ -1,4 +1,4 @@
-//! What batches are answered with, and how it is put in order.
+//! The answers to batches, and how they are put in order.
 
 ghost use Rattle.std.specs.Prelude.{◌≡◌, ◌<◌, ◌^◌, IfOk};
 ghost use Rattle.std.specs.List.{flat_map};
@@ -16,25 +16,25 @@ use std::alloc::{AllocError, Allocator};
 pub struct Rounded<A: Allocator> {
     /// The replies in the order of the jobs, one after another.
     pub bytes: Replies<A>,
-    /// How many lookups of each node the jobs give, less those that they take: in ascending order
+    /// How many lookups of each node the jobs give, minus those that they take: in ascending order
     /// of nodes, each node once, and none with 0.
     pub moves: Vec<Move, A>,
 }
 
-/// What a batch is answered with.
+/// The answer to a batch.
 #[derive(Drop)]
 pub struct Piece<A: Allocator> {
     /// The number of the batch.
     pub number: u32,
     /// The replies to its jobs, one after another.
     pub bytes: Replies<A>,
-    /// How many lookups of each node its jobs give, less those that they take: in ascending order
+    /// How many lookups of each node its jobs give, minus those that they take: in ascending order
     /// of nodes, each node once, and none with 0.
     pub moves: Vec<Move, A>,
 }
 
 /// Joins pieces in the order of their numbers: their bytes one after another, and the sums of their
-/// moves. Each number occurs once. `AllocError` only if memory was refused.
+/// moves. Each number occurs once. `AllocError` only if memory is refused.
 pub fn in_order<A: Allocator + Copy>(
     alloc: A,
     mut pieces: Vec<Piece<A>, A>,

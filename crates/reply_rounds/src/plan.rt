@@ -49,7 +49,7 @@ impl Plan {
     }
 }
 
-/// Passes the gate if a batch begins with the request of this number.
+/// Passes the gate if a batch begins with the request with this number.
 pub fn pass_batch<G: Gate>(gate: &G, plan: Plan, number: u32) {
     let batch = plan.batch();
     if number % batch == 0 {

@@ -1,4 +1,4 @@
--- What is loaded of a file of a kind, in words that name no kind.
+-- What is loaded from a file of a kind, in terms that name no kind.
 use Rattle.std.proofs.Common.{◌≡◌, sym, subst, ℕ, List, Option, IfOk, IfSome, Result, Ok, Err}
 use Rattle.romfs_files.specs.declared.opening.FileKind.{FileKind}
 use Rattle.romfs_files.specs.declared.opening.FileKind.TheVariants.{Regular, BlockDevice, Stream}

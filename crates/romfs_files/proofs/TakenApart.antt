@@ -1,4 +1,4 @@
--- Images that are taken apart one after another: the step at each, and the end.
+-- Images that are split one after another: the step at each, and the end.
 use Rattle.std.proofs.Common.{◌≡◌, ◌∙◌, ap, arith, refl, List, [], ◌∷◌, ◌++◌, append_assoc, append-nil, length, map, Option, Some, None, sym}
 use Rattle.romfs_files.specs.declared.image_data.ImageData.{ImageData}
 use Rattle.romfs_files.specs.declared.loaded.LoadedImage.{LoadedImage}
@@ -24,7 +24,7 @@ nothing : {X : Type 0} (xs : List X) → length xs ≡ 0 → xs ≡ []
 nothing [] none = refl
 nothing (x ∷ xs) none = absurd (omega (arith, none))
 
--- where none is left, all are done
+-- if none is left, all are done
 pub all_done : {X Y : Type 0} (f : List X → List Y) (all done : List Y) (left : List X) → f [] ≡ [] → all ≡ done ++ f left
     → length left ≡ 0 → done ≡ all
 all_done f all done left nil e none =

@@ -1,7 +1,8 @@
--- What is loaded of data that are read under a digest.
-use Rattle.std.proofs.Common.{◌≡◌, sym, subst, ℕ, None, Result, Ok, Err, IfOk, length}
+-- What is loaded from data that are read under a digest.
+use Rattle.std.proofs.Common.{◌≡◌, sym, ap, subst, ℕ, None, Result, Ok, Err, IfOk, length}
 use Rattle.devices.specs.Sources.{IsSizeOf, MayGive, sealed}
 use Rattle.romfs_seal.specs.declared.digest.Digest.{Digest}
+use Rattle.romfs_seal.specs.Named.{Named}
 use Rattle.romfs_held.specs.declared.image.HeldImage.TheVariants as held
 use Rattle.std.specs.declared.vec.Vec.{Vec}
 use Rattle.romfs_files.specs.declared.image_data.ImageData.{ImageData}
@@ -10,9 +11,13 @@ use Rattle.romfs_files.specs.declared.loaded.LoadedImage.{LoadedImage}
 use Rattle.romfs_files.specs.declared.loaded.Trailers.{Trailers}
 use Rattle.romfs_files.specs.Data.{source_of}
 use Rattle.romfs_files.specs.Loaded.{IsKeptOf, IsLetGo, IsOpenOver}
-use Rattle.romfs_files.specs.Sealing.{IsHeldUnder, IsOpenUnder, IsUnder, IsWholeOver, IsWholeUnder, seal_by}
+use Rattle.romfs_files.specs.Sealing.{IsGoneAs, IsHeldUnder, IsNameUnder, IsOpenAs, IsOpenUnder, IsUnder, IsWholeOver, IsWholeUnder, seal_by}
 
--- what is kept of data that are let go was gathered under the digest
+-- the data of a file of such a name are under the digest
+pub under_name : {F A : Type 0} (digest : Digest) (name : Named) → IsNameUnder digest name → IsUnder {F = F} {A = A} digest (Sealed name)
+under_name digest name under = record { size = under.size; is = ap sealed under.is }
+
+-- what is kept of data that are not read again was gathered under the digest
 held_under : {F A : Type 0} (digest : Digest) (source : ImageData F A) (trailers : Trailers) (image : LoadedImage F A)
     → IsUnder digest source → IsLetGo source trailers image → IsHeldUnder digest trailers image
 held_under digest (File f) trailers image under gone = absurd (cc)
@@ -33,6 +38,15 @@ pub opened_under : {F A E : Type 0} (digest : Digest) (source : ImageData F A) (
     → IsUnder digest source → IfOk result (IsOpenOver source trailers) → IfOk result (IsOpenUnder digest trailers)
 opened_under digest source trailers (Err e) under over = tt
 opened_under digest source trailers (Ok image) under over = record { source = source; under = under; over = over }
+
+-- the same of a file of such a name
+pub gathered_as : {F A E : Type 0} (digest : Digest) (name : Named) (trailers : Trailers) (result : Result (LoadedImage F A) E)
+    → IsNameUnder digest name → IfOk result (IsGoneAs name trailers) → IfOk result (IsHeldUnder digest trailers)
+gathered_as digest name trailers result under gone = gathered_under digest (Sealed name) trailers result (under_name digest name under) gone
+
+pub opened_as : {F A E : Type 0} (digest : Digest) (name : Named) (trailers : Trailers) (result : Result (LoadedImage F A) E)
+    → IsNameUnder digest name → IfOk result (IsOpenAs name trailers) → IfOk result (IsOpenUnder digest trailers)
+opened_as digest name trailers result under over = opened_under digest (Sealed name) trailers result (under_name digest name under) over
 
 -- all bytes of such data are held
 pub whole_under : {F A : Type 0} (digest : Digest) (source : ImageData F A) (bytes : Vec ℕ A) (image : LoadedImage F A)

@@ -1,11 +1,11 @@
--- Why the images of a list were not read, as their caller is reported.
+-- Why the images of a list were not read, as it is reported to their caller.
 use Rattle.std.proofs.Common.{◌≡◌, sym, subst, ℕ, ◌+◌, ◌<◌, ◌⊎◌, inl, inr, List, length, get_or, Option, None, Result, Ok, Err, IfErr, IsErrAnd, arith}
 use Rattle.romfs_seal.specs.declared.digest.Digest.{Digest}
 use Rattle.romfs_files.specs.Unread.{IsNextUnread, IsReadUpTo, IsUnreadAt}
 use Rattle.romfs_files.specs.declared.images.FilesFault.{FilesFault}
 use Rattle.romfs_files.specs.declared.images.FilesFault.TheVariants.{Memory}
 
--- one of so many images was not read, or memory ran out
+-- one of this many images was not read, or memory ran out
 abbrev pub IsOneUnread : ℕ → List (Option Digest) → FilesFault → Type 0
 IsOneUnread count digests fault =
     (fault ≡ Memory) ⊎ ((image : ℕ) × (image < count) × IsUnreadAt image (get_or digests image None) fault)

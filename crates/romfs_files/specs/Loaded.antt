@@ -1,4 +1,4 @@
--- What comes of the file of an image that is loaded.
+-- What is made from the file of an image that is loaded.
 use Rattle.std.specs.Prelude.{◌≡◌, ℕ, List, [], ◌∷◌, ◌++◌, Option, Some, None, map}
 use Rattle.devices.specs.Sources.{Source, sealed, unknown}
 use Rattle.romfs_seal.specs.Named.{seal_of}
@@ -12,19 +12,19 @@ use Rattle.romfs_files.specs.declared.image_data.ImageData.{ImageData}
 use Rattle.romfs_files.specs.declared.image_data.ImageData.TheVariants as from
 use Rattle.romfs_files.specs.Data.{source_of}
 
--- what is kept was gathered from whatever bytes the source shows: with their trailer, where
--- trailers are read
+-- what is kept was gathered from the bytes that the source shows, whichever these are: with their
+-- trailer, if trailers are read
 abbrev pub WasGathered : Trailers → Source → List ℕ → Type 0
 WasGathered Read source kept = IsGatheredWithTrailer source kept
 WasGathered Left source kept = IsGathered source kept
 
--- what the rules look at is held: it was gathered from this source, with its trailer, where
--- trailers are read
+-- what the rules look at is held: it was gathered from this source, with its trailer if trailers
+-- are read
 abbrev pub IsKeptWith : {A : Type 0} → Source → Trailers → HeldImage A → Type 0
 IsKeptWith source trailers (held.Kept kept) = WasGathered trailers source kept
 IsKeptWith source trailers (held.Whole bytes) = ⊥
 
--- so it is of an image, which says whether its trailer was read
+-- the same of an image, which says whether its trailer was read
 abbrev pub IsKeptOf : {F A : Type 0} → Source → Trailers → LoadedImage F A → Type 0
 IsKeptOf source trailers image =
     (image.trailers ≡ trailers) × IsKeptWith source trailers image.held
@@ -35,8 +35,8 @@ pub record IsOpenOver {F A : Type 0} (source : ImageData F A) (trailers : Traile
   pub source_is : image.source ≡ Some source
   pub kept : IsKeptOf (source_of source) trailers image
 
--- an image has let these data go: of a file, sealed or not, what the rules look at is held; all
--- bytes that were in memory are
+-- an image of these data, which it no longer reads: for a file, sealed or not, what the rules look
+-- at is held; for bytes in memory, all of them are
 abbrev pub IsLetGo : {F A : Type 0} → ImageData F A → Trailers → LoadedImage F A → Type 0
 IsLetGo (from.File file) trailers image =
     IsKeptOf unknown trailers image × (image.source ≡ None)
@@ -45,22 +45,22 @@ IsLetGo (from.Memory bytes) trailers image =
 IsLetGo (from.Sealed name) trailers image =
     IsKeptOf (sealed (seal_of name)) trailers image × (image.source ≡ None)
 
--- a list with what is added, if there is something
+-- a list, followed by a value if there is one
 abbrev pub added : {T : Type 0} → List T → Option T → List T
 added list None = list
 added list (Some value) = list ++ value ∷ []
 
--- what there is, before a list
+-- a value, if there is one, followed by a list
 abbrev pub before : {T : Type 0} → Option T → List T → List T
 before None rest = rest
 before (Some value) rest = value ∷ rest
 
--- what the data are read from of images whose files stay open
+-- what the data of images are read from, if their files stay open
 abbrev pub files_of : {F A : Type 0} → List (LoadedImage F A) → List (ImageData F A)
 files_of [] = []
 files_of (image ∷ images) = before image.source (files_of images)
 
--- images taken apart: this is held of them, in their order; and the data of those that are open are
+-- images were split: this is held of them, in their order; and the data of those that are open are
 -- read from these
 pub record AreApart {F A : Type 0} (images : List (LoadedImage F A)) (held : List (HeldImage A))
     (files : List (ImageData F A)) : Type 0 where

@@ -7,7 +7,7 @@ use Rattle.romfs_kept.specs.declared.fault.GatherFault.{GatherFault}
 use Rattle.romfs_kept.specs.declared.fault.GatherFault.TheVariants.{Unread, Memory}
 
 -- it met its end within the most pulls; or its only failure was the last pull; or it was pulled as
--- often as may be, and never met an end nor failed; or memory ran out
+-- often as allowed, without an end or a failure; or memory ran out
 abbrev pub IsReadThrough : {X : Type 0} → Pulls → Result X GatherFault → Type 0
 IsReadThrough p (Ok x) = (p.last ≡ Some End) × (p.failures ≡ 0) × (p.pulls ≤ MAX_TURNS)
 IsReadThrough p (Err Unread) =

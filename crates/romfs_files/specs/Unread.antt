@@ -9,8 +9,8 @@ abbrev pub IsUnreadAt : ℕ → Option Digest → FilesFault → Type 0
 IsUnreadAt image digest fault =
     (fault ≡ Unread image) ⊎ ((fault ≡ Unsealed image) × (is_some digest ≡ true))
 
--- this many images from number first on are read, of one for each of these digests, and the next
--- one could not be; or memory ran out
+-- of a run of images, one for each of these digests, this many from number first on are read, and
+-- the next one could not be; or memory ran out
 abbrev pub IsNextUnread : ℕ → List (Option Digest) → ℕ → FilesFault → Type 0
 IsNextUnread first digests read fault =
     (fault ≡ Memory)

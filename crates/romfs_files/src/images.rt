@@ -1,4 +1,4 @@
-//! The files of images, of a long list some at the same time.
+//! The files of images, several at the same time if the list is long.
 //!
 //! A list is cut in two, and a long half once more; each part is read from its lowest image up, and
 //! the results of two halves are joined: a fault of the lower half (memory, or an image that cannot
@@ -25,8 +25,8 @@ use std::thread::{Threads, join};
 /// How many times a list is cut into halves that are read at the same time.
 const FORKS: u32 = 2;
 
-/// A list of fewer files is read by its caller alone: to start a thread takes about as long as to
-/// read a small file.
+/// A list of fewer files is read by the calling thread alone: starting a thread takes about as long
+/// as reading a small file.
 const MANY: usize = 8;
 
 /// Why images were not read.
@@ -56,21 +56,20 @@ impl<T: Drop> From<AllocFailed<T>> for FilesFault {
     }
 }
 
-/// The images at these paths, in the order of the paths, as they are asked for: all bytes of each,
-/// from the beginning of its file to the end; or of a regular file and of a block device only what
-/// the rules look at, its first bytes, headers, names and the targets of symbolic links, with the
-/// trailer where trailers are read. Of all other files all bytes are read, and those of an image
-/// that stays open are gathered in the same way. A file that is let go is so before the next one of
-/// its part is opened, so there may be any number of them. An image for which a digest is given is
-/// read under it, with the tree in the file whose name has `.verity` added.
+/// Loads the images at these paths, in the order of the paths. Either all bytes of each file are
+/// read; or, of a regular file and of a block device, only what the rules look at: the first bytes,
+/// headers, names and the targets of symbolic links, and the trailer if trailers are read. Other
+/// files are read in full, and if such an image stays open, the same is gathered from its bytes. A
+/// file that does not stay open is closed before the next one of its part is opened, so there may
+/// be any number of them. An image with a digest is read under it, with the tree in the file whose
+/// name has `.verity` added.
 ///
-/// Of a long list at most four parts are read at the same time; of several files that cannot be
-/// read the lowest is reported, if there was memory for all below it. `Unread` comes where a file
-/// cannot be opened, as one too many, where a read fails or gives fewer bytes than the file has
-/// said, and where a device tells no end. That an image's full size goes on behind the end of its
-/// file is no fault here. `Unsealed` comes where an image or its tree is not the one that the
-/// digest names, or cannot be read; of a pipe no byte is read. `Memory` comes, too, where a trailer
-/// that is read ends at 2^32 or behind.
+/// At most four parts of a long list are read at the same time. If several files cannot be read,
+/// the lowest is reported, provided there was memory for all below it. `Unread` if a file cannot be
+/// opened, for example because too many are open; if a read fails or gives fewer bytes than the
+/// file reported; or if a device reports no end. A full size beyond the end of the file is no fault
+/// here. `Unsealed` if an image or its tree is not the one that the digest names, or cannot be
+/// read; no byte of a pipe is read. `Memory` also if a trailer that is read ends at 2^32 or beyond.
 pub fn load<R: Files + Threads + Sync, A: Allocator + Copy + Send + Sync>(
     rt: &R,
     alloc: A,
@@ -94,15 +93,15 @@ where
     Ok(images)
 }
 
-/// What was read of a run of images: its first ones, and why there are no more, if there are not.
+/// What was read from a run of images: the first ones, and why the others are missing, if any are.
 #[derive(Drop)]
 struct Run<T, A: Allocator> {
     images: Vec<T, A>,
     end: Result<(), FilesFault>,
 }
 
-/// The images of a run whose lowest has the number `first`, read in halves at the same time, each
-/// of which is cut once less, or one after another.
+/// Reads the images of a run whose lowest has the number `first`: in two halves at the same time,
+/// each of which is cut once less, or one after another.
 #[cycle(halves)]
 fn load_from<R: Files + Threads + Sync, A: Allocator + Copy + Send + Sync>(
     rt: &R,
@@ -129,7 +128,7 @@ where
     let (lows, highs) = paths.split_at(half);
     let (low_digests, high_digests) = digests.split_at(half);
     let next = first + half;
-    // the lowest layer, mostly the largest, waits for no thread to start
+    // the lowest layer, usually the largest, does not wait for a thread to start
     let (high, low) = join(
         rt,
         move || -> Run<LoadedImage<R::File, A>, A>
@@ -154,7 +153,7 @@ where
     both(low, high)
 }
 
-/// What was read of both halves: all of the lower one, then the upper one; or the lower one alone
+/// What was read from both halves: all of the lower one, then the upper one; or the lower one alone
 /// if it is not complete.
 fn both<T: Drop, A: Allocator>(low: Run<T, A>, high: Run<T, A>) -> Run<T, A>
     ensures order { OnOk result.end (result.images.items
@@ -186,8 +185,7 @@ fn both<T: Drop, A: Allocator>(low: Run<T, A>, high: Run<T, A>) -> Run<T, A>
     }
 }
 
-/// What was read of a run of images, of which the lowest has the number `first`, from the lowest
-/// up.
+/// Reads a run of images whose lowest has the number `first`, from the lowest up.
 fn load_in_turn<R: Files, A: Allocator + Copy>(
     rt: &R,
     alloc: A,
@@ -208,8 +206,8 @@ where
     Run { images, end }
 }
 
-/// Adds what is read of a run of images, of which the lowest has the number `first`, to an empty
-/// list, from the lowest up. The first that cannot be read is reported, behind all that were added.
+/// Reads a run of images whose lowest has the number `first`, from the lowest up, and adds them to
+/// an empty list. The first that cannot be read is reported; those before it were added.
 fn add_in_turn<R: Files, A: Allocator + Copy>(
     rt: &R,
     alloc: A,
@@ -259,7 +257,7 @@ where
     }
 }
 
-/// What is loaded of the file of an image under its digest.
+/// Loads the file of an image under its digest.
 fn load_named<R: Files, A: Allocator + Copy>(
     rt: &R,
     alloc: A,

@@ -1,28 +1,28 @@
 //! Images in files: read in full, or opened, in which case only what the rules check is read.
 //!
-//! [`load`] loads the files of a list of paths, in one of three ways ([`Loading`]), and gives a
-//! [`LoadedImage`] of each:
+//! [`load`] loads the files of a list of paths, in one of three ways ([`Loading`]), and returns a
+//! [`LoadedImage`] for each:
 //!
 //! - whole. A file is read once, from its beginning to its end, in at most 2^40 pulls of a
-//!   [`devices::Tap`], 64 KiB a pull; memory is taken once for each file that tells its length.
-//! - open. Of a file that can be read at a place headers, names and targets are read
-//!   (`romfs_kept`), in memory in proportion to these, and the file stays open; others are read
-//!   in full. Such an image has both: what is kept, and what its data are read from, the file or
-//!   the bytes ([`ImageData`]). [`apart`] makes two lists of a list of images.
-//! - gathered. As much is read, and no file is kept open.
+//!   [`devices::Tap`], 64 KiB a pull; memory is taken once for each file that reports its length.
+//! - open. If a file can be read at a place, only headers, names and targets are read
+//!   (`romfs_kept`), in memory in proportion to these, and the file stays open; others are read in
+//!   full. Such an image has both what is kept, and what its data are read from: the file or the
+//!   bytes ([`ImageData`]). [`apart`] splits a list of images into these two.
+//! - gathered. The same is read, and no file stays open.
 //!
 //! An image whose fs-verity digest is known is read under it, with the file of its tree
-//! (`romfs_seal`), which stands beside it with the name `.verity` added ([`load_sealed`]).
+//! (`romfs_seal`), whose name is the image's with `.verity` added ([`load_sealed`]).
 //!
-//! Of a long list up to four parts are read at the same time; the lowest image that cannot be read
+//! Up to four parts of a long list are read at the same time. The lowest image that cannot be read
 //! is reported.
 //!
-//! The private parts: `images` shares a list out; `opening` loads one file by what it is, `whole`
-//! reads all of one; `loaded` and `image_data` have what comes of it. No clause sees a
-//! path, nor what a read at a place gives: the tests open real files. Bytes in memory are those of
-//! some file, where these are known, and what is kept beside them was gathered from them. Under a
-//! digest what is kept is the named file's, if no read gives, in the place of a block, another with
-//! its digest.
+//! The private modules: `images` divides a list among threads; `opening` loads one file by its
+//! kind; `whole` reads all of one; `loaded` and `image_data` have the results. No clause knows a
+//! path, or what a read at a place gives, so the tests open real files. Bytes in memory are those
+//! of some file, if these are known, and what is kept beside them was gathered from them. Under a
+//! digest, what is kept is the named file's, unless a read gives, instead of a block, another with
+//! the same digest.
 #![tactic(auto)]
 
 mod image_data;

@@ -1,4 +1,4 @@
-//! Images that were loaded of their files.
+//! Images that were loaded from their files.
 
 ghost use Rattle.std.specs.Prelude.{◌≡◌, None, IfOk, IfErr};
 ghost use Rattle.romfs_kept.specs.Reads.{IsCause};
@@ -8,11 +8,11 @@ ghost use Rattle.romfs_files.specs.Loaded.{AreApart, IsKeptOf, IsOpenOver, IsLet
 use crate::image_data::ImageData;
 use devices::Contents;
 use romfs_held::HeldImage;
-use romfs_kept::{GatherFault, Kept, gather, gather_with_trailer};
+use romfs_kept::{GatherFault, Grain, Kept, gather, gather_with_trailer};
 use std::alloc::{AllocError, Allocator};
 use std::os::unix::fs::FileExt;
 
-/// Whether attribute trailers are read, which stand behind the images.
+/// Whether the attribute trailers that follow the images are read.
 #[derive(Clone, Copy)]
 pub enum Trailers {
     Read,
@@ -22,16 +22,16 @@ pub enum Trailers {
 /// How much of the file of an image is read, and whether it stays open.
 #[derive(Clone, Copy)]
 pub enum Loading {
-    /// All bytes, with those of the trailer. The file is let go.
+    /// All bytes, with those of the trailer. The file is closed.
     Whole,
-    /// What the rules look at, with the trailer where trailers are read. The file stays open.
+    /// What the rules look at, with the trailer if trailers are read. The file stays open.
     Open(Trailers),
-    /// The same, and the file is let go.
+    /// The same, and the file is closed.
     Gather(Trailers),
 }
 
-/// An image that was loaded: what is held of it; what its data are read from, where its file stays
-/// open; and whether its trailer was read, where not all bytes are held.
+/// A loaded image: what is held of it; what its data are read from, if its file stays open; and
+/// whether its trailer was read, if not all bytes are held.
 #[derive(Drop)]
 pub struct LoadedImage<F: FileExt, A: Allocator> {
     pub held: HeldImage<A>,
@@ -39,9 +39,9 @@ pub struct LoadedImage<F: FileExt, A: Allocator> {
     pub trailers: Trailers,
 }
 
-/// The image of these data, which stay open. What the rules look at is read, with the trailer where
-/// it is asked for. `Unread` comes where a read fails, or where the data end before the size that
-/// was told; `Memory` only where memory was refused, or where a trailer ends at 2^32 or behind.
+/// The image of these data, which stay open. Reads what the rules look at, with the trailer if
+/// requested. `Unread` if a read fails, or if the data end before the reported size; `Memory` only
+/// if memory was refused, or if a trailer ends at 2^32 or beyond.
 pub(crate) fn open<F: FileExt + Drop, A: Allocator + Copy>(
     alloc: A,
     source: ImageData<F, A>,
@@ -50,13 +50,13 @@ pub(crate) fn open<F: FileExt + Drop, A: Allocator + Copy>(
     ensures ok { IfOk result (IsOpenOver source trailers) }
     ensures err { IfErr result (IsCause (source_of source)) }
 {
-    let mut image = kept_of(alloc, &source, trailers)?;
+    let mut image = kept_of(alloc, &source, source.grain(), trailers)?;
     image.source = Some(source);
     Ok(image)
 }
 
-/// The image of these data, which are let go: what the rules look at, of a file, sealed or not; all
-/// bytes that are in memory.
+/// The image of these data, which are not read again: for a file, sealed or not, what the rules
+/// look at; for bytes in memory, all of them.
 pub(crate) fn let_go<F: FileExt + Drop, A: Allocator + Copy>(
     alloc: A,
     source: ImageData<F, A>,
@@ -65,9 +65,9 @@ pub(crate) fn let_go<F: FileExt + Drop, A: Allocator + Copy>(
     ensures { IfOk result (IsLetGo source trailers) }
 {
     match source {
-        ImageData::File(file) => kept_of(alloc, &file, trailers),
+        ImageData::File(file) => kept_of(alloc, &file, Grain::Byte, trailers),
         ImageData::Memory(bytes) => Ok(whole(bytes)),
-        ImageData::Sealed(file) => kept_of(alloc, &file, trailers),
+        ImageData::Sealed(file) => kept_of(alloc, &file, Grain::Block, trailers),
     }
 }
 
@@ -83,11 +83,11 @@ pub(crate) fn whole<F: FileExt, A: Allocator>(bytes: Vec<u8, A>) -> LoadedImage<
     }
 }
 
-/// What the rules look at, with the trailer where it is asked for, and nothing that data are read
-/// from.
-fn kept_of<F: FileExt, S: Contents, A: Allocator + Copy>(
+/// What the rules look at, with the trailer if requested. The image has nothing to read data from.
+pub(crate) fn kept_of<F: FileExt, S: Contents, A: Allocator + Copy>(
     alloc: A,
     source: &S,
+    grain: Grain,
     trailers: Trailers,
 ) -> Result<LoadedImage<F, A>, GatherFault>
     ensures ok { IfOk result (IsKeptOf (S.source source.now) trailers) }
@@ -95,7 +95,7 @@ fn kept_of<F: FileExt, S: Contents, A: Allocator + Copy>(
     ensures err { IfErr result (IsCause (S.source source.now)) }
 {
     Ok(LoadedImage {
-        held: HeldImage::Kept(gather_as(alloc, source, trailers)?),
+        held: HeldImage::Kept(gather_as(alloc, source, grain, trailers)?),
         source: None,
         trailers,
     })
@@ -104,19 +104,20 @@ fn kept_of<F: FileExt, S: Contents, A: Allocator + Copy>(
 fn gather_as<S: Contents, A: Allocator + Copy>(
     alloc: A,
     source: &S,
+    grain: Grain,
     trailers: Trailers,
 ) -> Result<Kept<A>, GatherFault>
     ensures ok { IfOk result (WasGathered trailers (S.source source.now)) }
     ensures err { IfErr result (IsCause (S.source source.now)) }
 {
     match trailers {
-        Trailers::Read => gather_with_trailer(alloc, source),
-        Trailers::Left => gather(alloc, source),
+        Trailers::Read => gather_with_trailer(alloc, source, grain),
+        Trailers::Left => gather(alloc, source, grain),
     }
 }
 
-/// Takes images apart: what is held of each; and what the data are read from of each whose file
-/// stays open, in the order of the images. `AllocError` comes only if memory was refused.
+/// Splits images: what is held of each, and what the data of each are read from if its file stays
+/// open, both in the order of the images. `AllocError` only if memory was refused.
 pub fn apart<F: FileExt + Drop, A: Allocator + Copy>(
     alloc: A,
     images: Vec<LoadedImage<F, A>, A>,
@@ -132,7 +133,7 @@ pub fn apart<F: FileExt + Drop, A: Allocator + Copy>(
     Ok((held, files))
 }
 
-/// Adds what there is.
+/// Adds the value, if there is one.
 fn add<T: Drop, A: Allocator>(list: &mut Vec<T, A>, value: Option<T>) -> Result<(), AllocError>
     ensures { IfOk result (λ _. list.new.items ≡ added list.old.items value) }
 {

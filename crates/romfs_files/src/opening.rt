@@ -1,8 +1,8 @@
 //! Opening files, from which at first only what the rules check is read.
 //!
-//! Headers come in any order, so this takes a file that can be read at a place (pread(2)): a
-//! regular file, or a block device, whose size is found by a seek to its end. Any other gives its
-//! bytes once, from the first to the last, and is read in full.
+//! Headers come in any order, so this needs a file that can be read at a place (pread(2)): a
+//! regular file, or a block device, whose size is found by a seek to its end. Any other file is a
+//! stream, and is read in full.
 
 ghost use Rattle.std.specs.Prelude.{◌≡◌, ◌↔◌, IfOk, IsTrue, MatchResult};
 ghost use Rattle.romfs_files.specs.Opening.{AreOfFile, IsBlockDevice, IsKindOf, IsLoadedAs};
@@ -18,21 +18,21 @@ use std::fs::{Metadata, OpenFile};
 use std::io::{self, Read, Seek, SeekFrom};
 use std::os::unix::fs::{FileExt, MetadataExt};
 
-/// The bits of a mode that say what a file is (S_IFMT of inode(7)).
+/// The bits of a mode that hold the kind of a file (S_IFMT of inode(7)).
 const FILE_TYPE: u32 = 0o170000;
 
-/// What they are of a block device (S_IFBLK).
+/// Their value for a block device (S_IFBLK).
 const BLOCK_DEVICE: u32 = 0o060000;
 
-/// What a file is, as far as it matters for how it is read.
+/// The kind of a file, as far as it decides how the file is read.
 #[derive(Clone, Copy)]
 pub enum FileKind {
     /// A regular file of this many bytes, one at least.
     Regular { size: u64 },
-    /// A block device. Its size does not come with its kind.
+    /// A block device. stat(2) does not report its size.
     BlockDevice,
-    /// Any other: a pipe, a terminal, or a regular file that says it is empty. Those of /proc say
-    /// so whatever they have.
+    /// Any other: a pipe, a terminal, or a regular file that reports that it is empty, as files of
+    /// /proc always do.
     Stream,
 }
 
@@ -67,7 +67,7 @@ fn is_block_device(metadata: &Metadata) -> bool
     metadata.mode() & FILE_TYPE == BLOCK_DEVICE
 }
 
-/// What is loaded of a file, which is at its beginning.
+/// Loads the image of a file, which is at its beginning.
 #[tactic(auto, using(crate::proofs::Files::loaded_of))]
 pub(crate) fn load_file<F: Read + Seek + OpenFile + FileExt + Drop, A: Allocator + Copy>(
     alloc: A,
@@ -80,8 +80,8 @@ pub(crate) fn load_file<F: Read + Seek + OpenFile + FileExt + Drop, A: Allocator
     load_as(alloc, file, kind, loading)
 }
 
-/// What is loaded of a file of a kind, which is at its beginning. `Unread` comes where a read
-/// fails, where a device tells no end, or where the file ends before the size that it told.
+/// Loads the image of a file of this kind, which is at its beginning. `Unread` if a read fails, if
+/// a device reports no end, or if the file ends before the size that it reported.
 pub fn load_as<F: Read + Seek + OpenFile + FileExt + Drop, A: Allocator + Copy>(
     alloc: A,
     file: F,
@@ -97,7 +97,7 @@ pub fn load_as<F: Read + Seek + OpenFile + FileExt + Drop, A: Allocator + Copy>(
     }
 }
 
-/// What the data of a file of a kind are read from: the file, or of a stream all its bytes.
+/// What the data of a file of this kind are read from: the file, or all bytes of a stream.
 fn data_of<F: Read + Seek + OpenFile + FileExt + Drop, A: Allocator>(
     alloc: A,
     mut file: F,
@@ -129,7 +129,7 @@ pub(crate) fn at_places<F: Seek + OpenFile + FileExt + Drop>(
     }
 }
 
-/// How many bytes stand before the end of a file.
+/// How many bytes a file has before its end.
 fn end_of<F: Seek>(file: &mut F) -> Result<u64, GatherFault> {
     file.seek(SeekFrom::End(0)).map_err(|_| GatherFault::Unread)
 }

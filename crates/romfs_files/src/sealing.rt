@@ -3,28 +3,32 @@
 ghost use Rattle.std.specs.Prelude.{length, IfOk};
 ghost use Rattle.devices.specs.Sources.{IsSizeOf, MayGive};
 ghost use Rattle.romfs_seal.specs.declared.digest.Digest.{Digest};
-ghost use Rattle.romfs_files.specs.Sealing.{IsLoadedUnder, IsUnder};
+ghost use Rattle.romfs_files.specs.Sealing.{IsGoneAs, IsLoadedUnder, IsNameUnder, IsOpenAs};
 
 use crate::image_data::ImageData;
-use crate::loaded::{LoadedImage, Loading, let_go, open, whole};
+use crate::loaded::{LoadedImage, Loading, Trailers, kept_of, whole};
 use devices::{Contents, InFile, fill};
-use romfs_kept::GatherFault;
-use romfs_seal::{Digest, Files, SealFault, SealedImage};
+use romfs_kept::{GatherFault, Grain};
+use romfs_seal::{Digest, Files, Recent, SealFault, SealedImage};
 use std::alloc::Allocator;
 use std::os::unix::fs::FileExt;
 
-/// The size from which on no file is read under a digest. An image with its trailer ends below half
-/// of it, and memory is taken for a part of the size before the digest vouches for it.
+/// Files of this size or more are not read under a digest. An image with its trailer ends below
+/// half of it, and memory is taken for a part of the size before the digest vouches for it.
 const TOO_LARGE: u64 = 1 << 33;
 
-/// What is loaded of a file whose fs-verity digest is this one, with the file of its tree. Each
-/// block is hashed when it is read. All bytes are read, or what the rules look at, with the trailer
-/// where it is asked for; then both files stay open, or are let go. Of what is read the named file
-/// has the bytes, unless a read gives, in the place of a block, another with its digest.
+/// A file under a digest, which one thread reads in parts.
+type Unshared<F, A> = SealedImage<Files<InFile<F>, InFile<F>, Recent<A>>, A>;
+
+/// Loads the image of a file with this fs-verity digest, with the file of its tree. Each block is
+/// hashed when it is read, unless its bytes were hashed shortly before. All bytes are read, or what
+/// the rules look at, with the trailer if requested; then both files stay open, or are closed. The
+/// bytes that are read are those of the named file, unless a read gives, instead of a block, another
+/// with the same digest.
 ///
-/// `Digest` and `Length` come where the files are not the named ones, `Length` also where the file
-/// has 2^33 bytes or more, `Unread` where a read fails or gives a block that has another digest, and
-/// `Memory` where memory was refused, or where a trailer ends at 2^32 or behind.
+/// `Digest` and `Length` if the files are not the named ones, `Length` also if the file has 2^33
+/// bytes or more, `Unread` if a read fails or gives a block with another digest, and `Memory` if
+/// memory was refused, or if a trailer ends at 2^32 or beyond.
 pub fn load_sealed<F: FileExt + Drop, A: Allocator + Copy>(
     alloc: A,
     image: InFile<F>,
@@ -42,20 +46,43 @@ pub fn load_sealed<F: FileExt + Drop, A: Allocator + Copy>(
     }
 }
 
-#[tactic(auto, using(crate::proofs::UnderDigest::gathered_under, crate::proofs::UnderDigest::opened_under))]
 fn load_under<F: FileExt + Drop, A: Allocator + Copy>(
     alloc: A,
-    source: ImageData<F, A>,
+    source: Unshared<F, A>,
     loading: Loading,
 ) -> Result<LoadedImage<F, A>, GatherFault>
-    ensures { (digest : Digest) → IsUnder digest source →
+    ensures { (digest : Digest) → IsNameUnder digest source →
         IfOk result (IsLoadedUnder digest loading) }
 {
     match loading {
-        Loading::Whole => Ok(whole(all_of(alloc, &source)?)),
-        Loading::Open(trailers) => open(alloc, source, trailers),
-        Loading::Gather(trailers) => let_go(alloc, source, trailers),
+        Loading::Whole => Ok(whole(all_of(alloc, &source.shared())?)),
+        Loading::Open(trailers) => open_sealed(alloc, source, trailers),
+        Loading::Gather(trailers) => gather_sealed(alloc, source, trailers),
     }
+}
+
+/// The image of a file under a digest, which stays open.
+fn open_sealed<F: FileExt + Drop, A: Allocator + Copy>(
+    alloc: A,
+    source: Unshared<F, A>,
+    trailers: Trailers,
+) -> Result<LoadedImage<F, A>, GatherFault>
+    ensures { IfOk result (IsOpenAs source trailers) }
+{
+    let mut image = kept_of(alloc, &source, Grain::Block, trailers)?;
+    image.source = Some(ImageData::Sealed(source.shared()));
+    Ok(image)
+}
+
+/// The image of such a file, which is let go.
+fn gather_sealed<F: FileExt + Drop, A: Allocator + Copy>(
+    alloc: A,
+    source: Unshared<F, A>,
+    trailers: Trailers,
+) -> Result<LoadedImage<F, A>, GatherFault>
+    ensures { IfOk result (IsGoneAs source trailers) }
+{
+    kept_of(alloc, &source, Grain::Block, trailers)
 }
 
 /// All bytes of a source.
@@ -72,14 +99,14 @@ fn all_of<S: Contents, A: Allocator>(alloc: A, source: &S) -> Result<Vec<u8, A>,
     }
 }
 
-/// The data of a file under a digest, with the size that the file reports.
+/// A file under a digest, with the size that the file reports.
 fn under_digest<F: FileExt + Drop, A: Allocator + Copy>(
     alloc: A,
     image: InFile<F>,
     tree: InFile<F>,
     digest: Digest,
-) -> Result<ImageData<F, A>, SealFault>
-    ensures { IfOk result (IsUnder digest) }
+) -> Result<Unshared<F, A>, SealFault>
+    ensures { IfOk result (IsNameUnder digest) }
 {
     let size = image.size();
     if size >= TOO_LARGE {
@@ -88,9 +115,9 @@ fn under_digest<F: FileExt + Drop, A: Allocator + Copy>(
     let files = Files {
         image,
         tree,
-        hash: digest.algorithm(),
+        hash: Recent::new(alloc, digest.algorithm())?,
         digest,
         size,
     };
-    Ok(ImageData::Sealed(SealedImage::open(alloc, files)?))
+    SealedImage::open(alloc, files)
 }

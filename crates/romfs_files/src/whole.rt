@@ -13,8 +13,8 @@ use std::alloc::Allocator;
 use std::fs::OpenFile;
 use std::io::Read;
 
-/// All that a file has. Where it tells its length, memory is taken once. `Unread` comes where a
-/// read fails, or where 2^40 reads meet no end.
+/// Reads a file to its end. If it reports its length, memory is taken once. `Unread` if a read
+/// fails, or if 2^40 reads meet no end.
 pub fn read_file<F: Read + OpenFile + Drop, A: Allocator>(
     alloc: A,
     file: F,
@@ -25,8 +25,8 @@ pub fn read_file<F: Read + OpenFile + Drop, A: Allocator>(
     read_all(alloc, &mut Tap::new(file), length)
 }
 
-// All that a new source has. `Unread` comes where the last pull failed, or where 2^40 pulls met no
-// end. Memory is taken once, where the source has no more than `length` bytes.
+// Reads a new source to its end. `Unread` if the last pull failed, or if 2^40 pulls met no end.
+// Memory is taken once if the source has no more than `length` bytes.
 fn read_all<S: Source, A: Allocator>(
     alloc: A,
     source: &mut S,
@@ -50,7 +50,7 @@ fn read_all<S: Source, A: Allocator>(
     Err(GatherFault::Unread)
 }
 
-// The length that a file reports; 0 if it does not.
+// The length that a file reports; 0 if it reports none.
 fn told_length<F: OpenFile>(file: &F) -> usize {
     match file.metadata() {
         Ok(metadata) => metadata.len() as usize,

@@ -17,7 +17,7 @@ and_false : (a : Bool) → (a && false) ≡ false
 and_false true = refl
 and_false false = refl
 
--- where each passes, one does
+-- if each passes, one does
 pub at_below : (n : ℕ) (test : ℕ → Bool) (i : ℕ) → i < n → holds_below n test ≡ true → test i ≡ true
 at_below zero test i l e = absurd (omega arith)
 at_below (suc n) test i l e = elim (cases_order i n) [
@@ -26,7 +26,7 @@ at_below (suc n) test i l e = elim (cases_order i n) [
   | inr (inr m) ↦ absurd (omega arith)
 ]
 
--- where one fails, not each passes
+-- if one fails, not each passes
 pub fails_below : (n : ℕ) (test : ℕ → Bool) (i : ℕ) → i < n → test i ≡ false → holds_below n test ≡ false
 fails_below zero test i l e = absurd (omega arith)
 fails_below (suc n) test i l e = elim (cases_order i n) [
@@ -35,7 +35,7 @@ fails_below (suc n) test i l e = elim (cases_order i n) [
   | inr (inr m) ↦ absurd (omega arith)
 ]
 
--- where those below n pass and n does, those below n + 1 do
+-- if those below n pass and n does, those below n + 1 do
 pub one_more : (n : ℕ) (test : ℕ → Bool) → holds_below n test ≡ true → test n ≡ true → holds_below (n + 1) test ≡ true
 one_more n test e f = rw (add-one, e) f
 

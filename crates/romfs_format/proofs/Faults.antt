@@ -107,7 +107,7 @@ profile_sound profile b = sound_too Usual profile b (λ t. absurd (false≢true 
 pub strict_sound : (b : List ℕ) → IsSound Strict b → IsSound Usual b
 strict_sound b = profile_sound Strict b
 
--- a profile that reads attributes requires a good trailer, and else what one without attributes requires with the same choice of sums
+-- a profile that reads attributes requires a good trailer, and besides what one without attributes requires with the same choice of sums
 module _ (with without : Profile) (same : asks_sums without ≡ asks_sums with) (reads : reads_attributes with ≡ true)
     (skips : reads_attributes without ≡ false) (b : List ℕ) where
   pub one_rule_more : IsSound with b ↔ (IsSound without b × ¬ IsTrailerBroken b)

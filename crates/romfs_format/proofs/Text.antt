@@ -1,6 +1,6 @@
 -- The text before the first zero byte, as a search finds it: of all bytes (ended_first), or of a
 -- front of them that has one (ended_near). Three lemmas say from it which name begins at a place:
--- it counts where its padding ends within the image. The last goes back from a name to its field.
+-- it counts if its padding ends within the image. The last goes back from a name to its field.
 use Rattle.std.proofs.Common.{◌≡◌, ◌≢◌, ◌∙◌, sym, ℕ, zero, suc, ◌<◌, Bool, true, false, leb, cond, List, [], ◌∷◌, length, take, get_or, Option, Some, None, IsSome, refl, arith, ◌≤◌}
 use Rattle.std.specs.Prelude.{IfSome}
 use Rattle.std.specs.Option.{option_map}
@@ -24,7 +24,7 @@ ended_at (zero ∷ xs) (suc k) l z h = absurd (h 0 (omega arith) refl)
 ended_at (suc x ∷ xs) zero l z h = absurd (omega arith)
 ended_at (suc x ∷ xs) (suc k) l z h = rw (ended_at xs k (omega arith) z (λ j m. h (suc j) (omega arith))) refl
 
--- the bytes before the first zero byte are the ended text; there is none where no byte is zero
+-- the bytes before the first zero byte are the ended text; there is none if no byte is zero
 pub ended_first : (xs : List ℕ) (r : Option ℕ) → IsFirstByte (is_byte 0) xs r → option_map (λ k. take k xs) r ≡ ended xs
 ended_first xs None h = sym (ended_none xs (λ k l e. h k (omega arith) l (rw e refl)))
 ended_first xs (Some k) h = sym (ended_at xs k h.0.high (eqb-true _ _ h.1) (λ j l e. h.0.before j (omega arith) l (rw e refl)))

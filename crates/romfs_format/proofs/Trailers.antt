@@ -1,5 +1,5 @@
--- What keeps its rule is known by its bounds, and bounds that can't fail hold (stable_..): so the
--- trailer of a sound image keeps its rule, where the profile reads it (whole_trailer).
+-- What keeps its rule is known by its bounds, and bounds that can't fail hold (stable_..). The
+-- trailer of a sound image therefore keeps its rule, if the profile reads it (whole_trailer).
 use Rattle.std.proofs.Common.{◌≡◌, ℕ, ◌<◌, ◌≤◌, inl, inr, List, IsTrue, arith, refl}
 use Rattle.std.specs.Prelude.{Bool, true, false}
 use Rattle.std.proofs.lemmas.Bool.{cases_lt, cases_order}
@@ -86,7 +86,7 @@ stable_trailer full t h = record {
 pub kept_trailer : (b : List ℕ) → HasTrailer b → ¬ IsTrailerBroken b → IsTrailer (word b 8) (trailer b)
 kept_trailer b h k = stable_trailer (word b 8) (trailer b) (λ n. k (h, n))
 
--- the trailer of a sound image, where its profile reads it
+-- the trailer of a sound image, if its profile reads it
 pub whole_trailer : (profile : Profile) (b : List ℕ) → IsTrue (reads_attributes profile) → IsSound profile b → HasTrailer b
     → IsTrailer (word b 8) (trailer b)
 whole_trailer profile b r s h = kept_trailer b h (λ x. s.keeps Attributes (trailer_at b) (r, x, refl))

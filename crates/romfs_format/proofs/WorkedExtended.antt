@@ -1,5 +1,5 @@
--- The worked extended attributes and parts of trailers, by computation. What a part that is broken
--- has to keep computes to something false.
+-- The worked extended attributes and parts of trailers, by computation. What a broken part must
+-- keep computes to something false.
 use Rattle.std.proofs.Common.{◌≡◌, ◌≤◌, arith, refl, lit<, lit≤}
 use Rattle.std.specs.Prelude.{⊤, false, true}
 use Rattle.romfs_format.specs.Fields.{word, ended}
@@ -11,7 +11,7 @@ use Rattle.romfs_format.specs.ExtendedExamples.{AclExamples, BrokenAclExamples, 
 use Rattle.romfs_format.specs.PartExamples.{PartExamples, RightPartExamples, BrokenPartExamples}
 use Rattle.romfs_format.proofs.WorkedTrailers.{two_right, one_right}
 
--- what values and names that are written out are read by
+-- facts for reading values and names that are written out
 unfoldable values_on_literals : ⊤
 unfolding ended little_at access_name default_name capability_name is_overlay_name is_capability
 values_on_literals = tt
@@ -104,7 +104,7 @@ lists = record {
   default_alone = refl;
 }
 
--- what parts that are written out are read by
+-- facts for reading parts that are written out
 unfoldable parts_on_literals : ⊤
 unfolding values_on_literals word trailer trailer_bytes long_word part part_bytes lists_in piece list_of
 parts_on_literals = tt

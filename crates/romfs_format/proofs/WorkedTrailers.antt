@@ -1,12 +1,12 @@
--- The worked trailers, by computation (trailers_on_literals). The rows of one are right that has
--- two right rows which rise (two_right); each broken one breaks a field of what it has to keep.
+-- The worked trailers, by computation (trailers_on_literals). The rows of a trailer are right if it
+-- has two right rows that rise (two_right); each broken one breaks a field of what it must keep.
 use Rattle.std.proofs.Common.{◌≡◌, ℕ, zero, suc, ◌<◌, ◌≤◌, List, arith, refl, lit<, lit≤}
 use Rattle.std.specs.Prelude.{⊤}
 use Rattle.romfs_format.specs.Fields.{word}
 use Rattle.romfs_format.specs.Trailer.{trailer, trailer_bytes, long_word, part, row_of, IsRow, AreRows}
 use Rattle.romfs_format.specs.TrailerExamples.{NoTrailerExamples, TrailerExamples, ProfileExamples, BrokenTrailerExamples}
 
--- what trailers that are written out are read by
+-- facts for reading trailers that are written out
 unfoldable trailers_on_literals : ⊤
 unfolding word trailer trailer_bytes long_word part
 trailers_on_literals = tt

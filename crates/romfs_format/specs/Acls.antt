@@ -33,7 +33,7 @@ acl_id v i = little_at 4 v (8 * i + 8)
 abbrev pub names_one : ℕ → Bool
 names_one tag = (tag == USER) || (tag == GROUP)
 
--- one with this tag names nobody
+-- one with this tag names no user or group
 abbrev pub names_nobody : ℕ → Bool
 names_nobody tag = (tag == USER_OBJ) || (tag == GROUP_OBJ) || (tag == MASK) || (tag == OTHER)
 

@@ -25,7 +25,7 @@ IsInChain a d h = (n : ℕ) × IsAt a d n h
 abbrev pub IsDotted : List ℕ → ℕ → Type 0
 IsDotted a h = IsInside a h × ((name a h ≡ Some (codes ".")) ⊎ (name a h ≡ Some (codes "..")))
 
--- of such a header in the chain of d only next is used: the root's own in its own chain, and each .
+-- only next is used of such a header in the chain of d: the root's own in its own chain, and each .
 -- and ..
 abbrev pub IsPassedOver : List ℕ → ℕ → ℕ → Type 0
 IsPassedOver a d h = ((d ≡ root a) × (h ≡ root a)) ⊎ IsDotted a h

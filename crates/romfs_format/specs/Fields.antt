@@ -25,7 +25,7 @@ cleared n = n / 16 * 16
 unfoldable pub image : List ℕ → List ℕ
 image b = take (word b 8) b
 
--- what the volume checksum goes over
+-- the bytes that the volume checksum covers
 unfoldable pub summed : List ℕ → List ℕ
 summed a = take SUMMED_SIZE a
 
@@ -34,7 +34,7 @@ abbrev pub word_sum : List ℕ → ℕ
 word_sum (x ∷ y ∷ z ∷ w ∷ bytes) = x * 2 ^ 24 + y * 2 ^ 16 + z * 2 ^ 8 + w + word_sum bytes
 word_sum _ = 0
 
--- the bytes among which a name that begins at p has to end
+-- the bytes among which a name that begins at p must end
 unfoldable pub name_field : List ℕ → ℕ → List ℕ
 name_field a p = take NAME_FIELD_SIZE (drop p a)
 

@@ -76,7 +76,7 @@ pub record AreLists (y : List ℕ) : Type 0 where
 abbrev pub part_size : List ℕ → ℕ
 part_size x = word x 8
 
--- what its sum goes over
+-- the bytes that its sum covers
 unfoldable pub part_bytes : List ℕ → List ℕ
 part_bytes x = take (part_size x) x
 

@@ -10,7 +10,7 @@ asks_sums Strict = true
 asks_sums UsualWithAttributes = false
 asks_sums StrictWithAttributes = true
 
--- the attribute trailer is read, and has to keep its rule
+-- the attribute trailer is read, and must keep its rule
 abbrev pub reads_attributes : Profile → Bool
 reads_attributes Usual = false
 reads_attributes Strict = false

@@ -71,7 +71,7 @@ IsNamesake a g h =
     × (name a g ≡ name a h)
 
 -- the words of the header at h, of its name and of the padding do not sum to 0; a header whose name
--- is not ended has no sum, and only the root's must have one then
+-- is not ended has no sum, which is a fault only for the root's
 abbrev pub HasBadSum : List ℕ → ℕ → Type 0
 HasBadSum a h =
     MatchOption (name a h) (h ≡ root a) (λ n. word_sum (header_bytes a h n) % 2 ^ 32 ≢ 0)
@@ -98,7 +98,7 @@ BreaksHeader profile a TooDeep h =
     (path : List (List ℕ)) × Has a path h × (MAX_NAMES < length path)
 BreaksHeader profile a _ h = ⊥
 
--- no header fits at the root's place, or it is no directory's
+-- no header fits at the root's place, or it is not a directory's
 abbrev pub HasNoRoot : List ℕ → Type 0
 HasNoRoot a = (length a < root a + HEAD_SIZE) ⊎ (kind a (root a) ≢ Directory)
 
@@ -154,7 +154,7 @@ pub record IsFault (profile : Profile) (b : List ℕ) (r : Rule) (p : ℕ) : Typ
   pub broken : Breaks profile b r p
   pub first : (s : Rule) (q : ℕ) → Breaks profile b s q → ¬ IsNamedBefore s q r p
 
--- no rule of the volume header is broken: they are the first six, and of every profile
+-- no rule of the volume header is broken: these are the first six, and every profile has them
 pub record IsVolume (b : List ℕ) : Type 0 where
   pub keeps : (r : Rule) (p : ℕ) → rule_number r < 6 → ¬ Breaks Usual b r p
 

@@ -14,7 +14,7 @@ use Rattle.romfs_format.specs.Part.{list_number, lists_in, numbered, IsPart}
 -- b is all bytes of an image, and t those from the start of its trailer on. Numbers are big-endian,
 -- as in the image.
 
--- a trailer begins at the first multiple of 16 at or behind the full size
+-- a trailer begins at the first multiple of 16 at or after the full size
 abbrev pub trailer_at : List ℕ → ℕ
 trailer_at b = padded (word b 8)
 
@@ -43,7 +43,7 @@ row_start i = TRAILER_HEAD_SIZE + ROW_SIZE * i
 abbrev pub trailer_end : List ℕ → ℕ
 trailer_end t = row_start (row_count t)
 
--- what its sum goes over
+-- the bytes that its sum covers
 unfoldable pub trailer_bytes : List ℕ → List ℕ
 trailer_bytes t = take (trailer_end t) t
 

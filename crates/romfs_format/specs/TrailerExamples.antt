@@ -75,7 +75,7 @@ pub record NoTrailerExamples : Type 0 where
   pub one_byte_on : has_trailer (bare_image ++ codes " -attr01-" ++ replicate 8 0) ≡ false
   pub no_rows : rows bare_image ≡ []
 
--- trailers that keep their rule, and what they say; bytes behind the last row say nothing
+-- trailers that keep their rule, and what they say; bytes after the last row say nothing
 pub record TrailerExamples : Type 0 where
   pub none : IsTrailer 64 (trailer (behind (0 ∷ 0x606e5a5f ∷ [])))
   pub two : IsTrailer 64 (trailer two_rows)

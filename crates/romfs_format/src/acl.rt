@@ -7,13 +7,13 @@ pub const VERSION: u32 = 2;
 /// The tag of the entry for the file's owner.
 pub const USER_OBJ: u32 = 1;
 
-/// The tag of an entry for a user who is named.
+/// The tag of an entry for a named user.
 pub const USER: u32 = 2;
 
 /// The tag of the entry for the file's group.
 pub const GROUP_OBJ: u32 = 4;
 
-/// The tag of an entry for a group that is named.
+/// The tag of an entry for a named group.
 pub const GROUP: u32 = 8;
 
 /// The tag of the entry that limits those for named users and for groups.
@@ -22,5 +22,5 @@ pub const MASK: u32 = 16;
 /// The tag of the entry for all others.
 pub const OTHER: u32 = 32;
 
-/// The id of an entry that names nobody.
+/// The id of an entry that names no user or group.
 pub const UNDEFINED_ID: u32 = 0xffff_ffff;

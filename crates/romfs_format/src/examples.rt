@@ -38,7 +38,7 @@ pub fn broken_trailer_example()
     ensures { BrokenTrailerExamples }
 {}
 
-/// What each profile asks, and shows of a trailer.
+/// What each profile requires, and what it shows of a trailer.
 #[tactic(auto, using(crate::proofs::WorkedTrailers::profiles))]
 pub fn profile_example()
     ensures { ProfileExamples }

@@ -30,7 +30,8 @@ pub fn strict_is_sound()
     ensures { (b : List ℕ) → IsSound Strict b → IsSound Usual b }
 {}
 
-/// A profile with attributes asks what the one without them asks, and that a trailer is not broken.
+/// A profile with attributes requires what the one without them requires, and that a trailer is not
+/// broken.
 #[tactic(auto, using(crate::proofs::Faults::with_usual, crate::proofs::Faults::with_strict))]
 pub fn attributes_are_one_rule()
     ensures usual { (b : List ℕ) → IsSound UsualWithAttributes b

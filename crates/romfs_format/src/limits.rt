@@ -43,5 +43,5 @@ pub const MAX_XATTR_SIZE: usize = 65_536;
 /// The most bytes of all names of a file together, each with a zero byte (`XATTR_LIST_MAX`).
 pub const MAX_XATTR_LIST_SIZE: usize = 65_536;
 
-/// The most bytes of an access control list: Linux's FUSE asks for no more.
+/// The most bytes of an access control list: Linux's FUSE requests no more.
 pub const MAX_ACL_SIZE: usize = 4_096;

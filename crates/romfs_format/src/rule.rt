@@ -37,7 +37,7 @@ pub enum Rule {
     LinkedTwice,
     /// A directory holds a name once.
     SameName,
-    /// A hard link leads to something that is no hard link.
+    /// A hard link leads to something that is not a hard link.
     LinkLoop,
     /// A hard link leads to no directory.
     LinkDirectory,
@@ -53,12 +53,12 @@ pub enum Rule {
     Attributes,
 }
 
-/// Which rules an image has to keep, and whether its attribute trailer is read: the strict profiles
-/// ask for [`Rule::HeaderSum`], those with attributes for [`Rule::Attributes`], and all for all
+/// Which rules an image must keep, and whether its attribute trailer is read. The strict profiles
+/// require [`Rule::HeaderSum`], those with attributes [`Rule::Attributes`], and all profiles all
 /// other rules.
 #[derive(Clone, Copy, PartialEq, Eq)]
 pub enum Profile {
-    /// Header sums are not looked at, as Linux does.
+    /// Header sums are ignored, as Linux does.
     Usual,
     Strict,
     UsualWithAttributes,
@@ -74,7 +74,7 @@ pub struct ImageFault {
 }
 
 impl Profile {
-    /// The profile that asks for header sums, and reads attributes, or does not.
+    /// The profile that requires header sums or not, and reads attributes or not.
     pub fn with(sums: bool, attributes: bool) -> Profile
         ensures { result ≡ profile_with sums attributes }
     {

@@ -1,5 +1,5 @@
 -- What is put at the front of a room: bytes of an image from a place on (front_copied), as those of a
--- run are (run_copied), or one that is 0 where no run is (zero_copied).
+-- run are (run_copied), or one that is 0 if there is no run (zero_copied).
 use Rattle.std.proofs.Common.{◌≡◌, ◌∙◌, sym, ap, ℕ, ◌+◌, ◌<◌, ◌≤◌, List, [], ◌∷◌, ◌++◌, length, take, drop, get_or, slice_set, refl, arith, length-append, length-drop, length-take-le}
 use Rattle.std.proofs.lemmas.List.{take_at, get_or-drop, get_or-take, ext_get_or}
 use Rattle.romfs_held.specs.Blocks.{byte_of, filled, IsRun, CopiesSome}

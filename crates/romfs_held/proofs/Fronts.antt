@@ -50,7 +50,7 @@ pub word_front : (a : List ℕ) (at reach : ℕ) (xs : List ℕ) → IsFront a a
 word_front a at reach xs f k l m = word_same xs a k (at + k) (λ i n.
     sym (f.is (k + i) (omega arith) (omega arith)) ∙ ap (λ x. get_or a x 0) (let g : at + (k + i) ≡ at + k + i = omega arith in g))
 
--- a name of this length is as many of the bytes behind its header
+-- a name of this length is as many of the bytes after its header
 pub name_front : {reach : ℕ} (a : List ℕ) (h : ℕ) (xs : List ℕ) → IsFront a (h + 16) reach xs → (n : ℕ) → n ≡ length (name_of a h) → n ≤ length xs
     → h + 16 ≤ length a → take n xs ≡ name_of a h
 name_front a h xs f n e l m =
@@ -127,7 +127,7 @@ module _ (a near : List ℕ) (at room : ℕ) (size : length a ≡ at + room) (fr
         let f = long in let g = field_long in
         nonzero h k (omega arith) (sym (same k (omega arith) (omega arith) (omega arith)) ∙ w)))
 
-    -- where the front ends before, its end is that of the name
+    -- if the front ends before, its end is that of the name
     pub ends_behind : (r : Option ℕ) → is_some r ≡ false → IsFirstByte (is_byte 0) field r → length field ≢ min room 256
         → Some (take (length field) near) ≡ ended (name_field a at)
     ends_behind (Some k) s h n = absurd (false≢true (sym s))

@@ -1,6 +1,6 @@
--- A name that is ended stands in the image's bytes: it is the front part of the field that it is
--- read from (`front`), and lies in the image with its padding; `text_bytes` says both. The same of
--- the name of a header, where the empty one stands for one that is not ended (name_taken, name_within).
+-- A name that is ended is in the image's bytes: it is the front part of the field that it is read from
+-- (`front`), and lies in the image with its padding; `text_bytes` says both. The same of the name of a
+-- header, with the empty one for one that is not ended (name_taken, name_within).
 use Rattle.std.proofs.Common.{◌≡◌, ◌∙◌, sym, ap, ℕ, zero, suc, ◌+◌, ◌≤◌, List, [], ◌∷◌, ◌++◌, length, take, drop, Option, Some, None, refl, arith}
 use Rattle.std.specs.Prelude.{unwrap_or}
 use Rattle.std.specs.Option.{option_map}
@@ -35,7 +35,7 @@ text_bytes a t p e =
     ∙ ap (λ x. x ++ drop NAME_FIELD_SIZE (drop p a)) f.1 ∙ append_assoc t f.0 (drop NAME_FIELD_SIZE (drop p a)) in
     (w.1, rw g (take-append_seam t (f.0 ++ drop NAME_FIELD_SIZE (drop p a))))
 
--- a name is the bytes behind its header, as many as it has
+-- a name is the bytes after its header, as many as it has
 pub name_taken : (a : List ℕ) (h : ℕ) → take (length (name_of a h)) (drop (h + 16) a) ≡ name_of a h
 name_taken a h = test (name a h) refl
   where
@@ -43,7 +43,7 @@ name_taken a h = test (name a h) refl
     test None e = refl
     test (Some n) e = (text_bytes a n (h + 16) (sym e)).1
 
--- and ends in the image, where its header does
+-- and ends in the image, if its header does
 pub name_within : (a : List ℕ) (h : ℕ) → h + 16 ≤ length a → h + 16 + length (name_of a h) ≤ length a
 name_within a h l = test (name a h) refl
   where

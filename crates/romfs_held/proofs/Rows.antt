@@ -1,6 +1,5 @@
--- Blocks that are cut behind a size hold the same up to it (cut_is); blocks
--- that are followed by a row, and bytes by its bytes, hold both (followed_kept, followed_below,
--- followed_filled).
+-- Blocks that are cut after a size hold the same up to it (cut_is); blocks that are followed by a
+-- row, and bytes by its bytes, hold both (followed_kept, followed_below, followed_filled).
 use Rattle.std.proofs.Common.{◌≡◌, ◌≢◌, ◌∙◌, sym, ap, ℕ, zero, suc, ◌+◌, ◌-◌, ◌*◌, ◌/◌, ◌%◌, ◌<◌, ◌≤◌, ◌⊎◌, inl, inr, List, [], ◌∷◌, ◌++◌, length, take, get_or, refl, arith, length-take-le, length-append}
 use Rattle.std.proofs.lemmas.Bool.{cases_lt, cases_eq}
 use Rattle.std.proofs.lemmas.List.{get_or-take, get_or_append_left, get_or_at, ext_get_or}
@@ -8,7 +7,7 @@ use Rattle.romfs_held.specs.Blocks.{byte_of, filled, IsKept, IsRank, AreBelow, I
 use Rattle.romfs_held.proofs.Runs.{byte_kept, byte_none}
 use Rattle.romfs_held.proofs.Fronts.{filled_at, filled_long}
 
--- a number stands among the blocks, or it does not
+-- a number is among the blocks, or it is not
 pub find_block : (blocks : List ℕ) (q : ℕ)
     → ((i : ℕ) × (i < length blocks) × (get_or blocks i 0 ≡ q)) ⊎ ((i : ℕ) → i < length blocks → get_or blocks i 0 ≢ q)
 find_block [] q = inr (λ i l e. absurd (omega arith))

@@ -1,6 +1,6 @@
 -- The bytes of blocks: of one that is kept (byte_kept), of none (byte_none), and of a row of them
--- (run_is). Blocks as far apart as their numbers are a row (dense_row), and a block that stands
--- somewhere has that rank (rank_here); block_is is the rest of one.
+-- (run_is). Blocks as far apart as their numbers are a row (dense_row), and a block at a position
+-- has that rank (rank_here); block_is is the rest of one.
 use Rattle.std.proofs.Common.{◌≡◌, ◌≢◌, ◌∙◌, sym, ap, ℕ, zero, suc, ◌+◌, ◌-◌, ◌*◌, ◌/◌, ◌%◌, ◌-◌, ◌<◌, ◌≤◌, ◌==◌, inl, inr, if◌then◌else◌, List, [], ◌∷◌, length, take, drop, get_or, refl, arith, length-drop, length-take-le}
 use Rattle.std.proofs.lemmas.List.{get_or-drop, get_or-take}
 use Rattle.std.proofs.lemmas.Bool.{cases_lt}
@@ -45,7 +45,7 @@ gap blocks r i (suc n) l =
     let a = r.above (i + n) (i + suc n) (omega arith) l in
     omega arith
 
--- a block that stands here has a rank as great
+-- a block at this position has a rank as great
 pub rank_here : (blocks : List ℕ) → Rises blocks → (block at : ℕ) → at < length blocks → get_or blocks at 0 ≡ block
     → IsRank blocks block at
 rank_here blocks r block at l e = record {
@@ -110,7 +110,7 @@ module _ (blocks bytes : List ℕ) (kept : IsKept blocks bytes) (at : ℕ) where
       byte_kept blocks bytes at k kept.rises l e
       ∙ ap (λ i. get_or bytes i 0) (let g : 16 * k + at % 16 ≡ k * 16 + at % 16 = omega arith in g)
 
-  -- what is left of a block that stands at a position
+  -- what is left of a block at a position
   pub block_is : (k n : ℕ) → k < length blocks → get_or blocks k 0 ≡ at / 16 → n ≡ 16 - at % 16 → (i : ℕ)
       → i < length (take n (drop (k * 16 + at % 16) bytes))
       → byte_of blocks bytes (at + i) ≡ get_or (take n (drop (k * 16 + at % 16) bytes)) i 0

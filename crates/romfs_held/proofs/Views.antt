@@ -1,7 +1,7 @@
 -- The first bytes of a filled list are filled (first_filled); a list begins with the bytes that it
--- has at its first places (begins, begins_not), which a test tells (same_front, other_front,
--- short_front); a number of eight bytes is made of two words (long_by_words), and stands, as a word,
--- where it does behind a place (word_behind, long_behind).
+-- has at its first places (begins, begins_not), which a test decides (same_front, other_front,
+-- short_front); a number of eight bytes is made of two words (long_by_words), and both are the same
+-- in the bytes after a place (word_behind, long_behind).
 use Rattle.std.proofs.Common.{◌≡◌, ◌≢◌, ◌∙◌, sym, ap, ℕ, zero, suc, ◌+◌, ◌*◌, ◌^◌, ◌<◌, ◌≤◌, inl, inr, true, false, List, [], ◌∷◌, ◌++◌, length, take, drop, get_or, refl, arith, length-take-le}
 use Rattle.std.specs.Prelude.{nat_eq}
 use Rattle.std.specs.List.{starts_with}
@@ -43,7 +43,7 @@ same_front [] (y ∷ ys) l h = absurd (omega arith)
 same_front (x ∷ xs) (y ∷ ys) l h =
     rw (eq-eqb y x (sym (h 0 (omega arith)))) (same_front xs ys (omega arith) (λ i m. h (suc i) (omega arith)))
 
--- where a first byte is the same, the others tell; where it is another, it does
+-- if a first byte is the same, the others decide; if it is another, it decides
 heads : (x y : ℕ) (xs ys : List ℕ) → starts_with nat_eq xs ys ≡ false → starts_with nat_eq (x ∷ xs) (y ∷ ys) ≡ false
 heads x y xs ys e = elim (cases_eq y x) [
   | inl f ↦ rw (eq-eqb y x f) e
@@ -73,7 +73,7 @@ long_by_words b p =
     let m = e 3 in
     omega arith
 
--- words of the bytes from a place on stand behind that place
+-- words of the bytes from a place on are those after that place
 pub word_behind : (b : List ℕ) (place at : ℕ) → word b (place + at) ≡ word (drop place b) at
 unfolding word
 word_behind b place at = ap (big_number 4) (sym (drop-drop at place b))

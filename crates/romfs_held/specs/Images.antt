@@ -1,4 +1,4 @@
--- The bytes of an image that is owned.
+-- The bytes of an owned image.
 use Rattle.std.specs.Prelude.{ℕ, Bool, true, false, List}
 use Rattle.romfs_held.specs.declared.image.HeldImage.{HeldImage}
 use Rattle.romfs_held.specs.declared.image.HeldImage.TheVariants.{Whole, Kept}

@@ -136,7 +136,7 @@ fn word_by_bytes(blocks: &Numbers<'_>, bytes: &[u8], size: u32, at: u32) -> u32
     requires at { at + 4 ≤ size }
     ensures { result ≡ word_of (filled size blocks.now.all.now bytes.now) at }
 {
-    // the size is named by the clauses alone
+    // only the clauses name the size
     let _ = size;
     BigEndian::read_u32(&[
         byte_in(blocks, bytes, at),
@@ -302,7 +302,7 @@ pub(crate) fn head_in_blocks(
     head_with(at, first, spec, data_size, name_len)
 }
 
-/// The same with its name, mostly from one run.
+/// The same with its name, usually from one run.
 #[cold]
 pub(crate) fn named_of_blocks<'a>(
     blocks: &Numbers<'_>,
@@ -373,7 +373,7 @@ pub(crate) fn name_of_blocks<'a>(
     }
 }
 
-/// This many bytes from a place on, of an image of this size, where they are kept without a gap and
+/// This many bytes from a place on, of an image of this size, if they are kept without a gap and
 /// are no more than a header and its name can have.
 #[tactic(auto, using(crate::proofs::Sums::run_part))]
 pub(crate) fn slice_of_blocks<'a>(
@@ -433,7 +433,7 @@ pub(crate) struct Summed {
     pub(crate) len: u32,
 }
 
-/// The sum of the first words of these bytes: those of a run, or else one.
+/// The sum of the first words of these bytes: those of a run, or otherwise one.
 fn sum_of_some(blocks: &Numbers<'_>, bytes: &[u8], size: u32, at: u32, len: u32) -> Summed
     requires kept { IsKept blocks.now.all.now bytes.now }
     requires within { at + len ≤ size }
@@ -455,7 +455,7 @@ fn sum_of_some(blocks: &Numbers<'_>, bytes: &[u8], size: u32, at: u32, len: u32)
 }
 
 /// Puts bytes from a place on, of an image of this size, at the front of a room: those of a run, or
-/// else one that is 0. It says how many.
+/// otherwise one that is 0. Returns how many.
 #[cold]
 pub(crate) fn copy_some_of_blocks(
     blocks: &Numbers<'_>,

@@ -1,4 +1,4 @@
-//! An image that is owned: all its bytes, or what is kept of it.
+//! An owned image: all its bytes, or what is kept of it.
 
 ghost use Rattle.std.specs.Prelude.{◌≡◌, ◌≤◌, length, take, true};
 ghost use Rattle.romfs_held.specs.Images.{held_bytes, is_whole};
@@ -27,7 +27,7 @@ impl<A: Allocator> HeldImage<A> {
         }
     }
 
-    /// All its bytes, of an image that is held whole.
+    /// All its bytes, if the image is held in full.
     pub fn bytes(&self) -> &[u8]
         requires { is_whole self.now ≡ true }
         ensures { result.now ≡ held_bytes self.now }
@@ -38,7 +38,7 @@ impl<A: Allocator> HeldImage<A> {
         }
     }
 
-    /// The first bytes alone, so many.
+    /// Only the first bytes, this many.
     pub fn first(self, count: u32) -> HeldImage<A>
         requires { count ≤ length (held_bytes self) }
         ensures value { held_bytes result ≡ take count (held_bytes self) }

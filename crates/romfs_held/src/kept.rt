@@ -14,9 +14,9 @@ use std::marker::Model;
 #[derive(Drop)]
 pub struct Kept<A: Allocator> {
     size: u32,
-    /// The numbers of the blocks, in rising order. None lies behind the size.
+    /// The numbers of the blocks, in rising order. None lies beyond the size.
     blocks: Vec<u32, A>,
-    /// The bytes of the blocks, one block behind the other.
+    /// The bytes of the blocks, one block after the other.
     bytes: Vec<u8, A>,
     /// What is noted of the numbers.
     stretches: Stretches<A>,
@@ -36,7 +36,7 @@ impl<A: Allocator> Model for Kept<A> {
 
 impl<A: Allocator + Copy> Kept<A> {
     /// Blocks of an image of this size in bytes: their numbers, rising, and the bytes of each, one
-    /// behind the other. Those beyond the size are dropped. Fails only if memory was refused.
+    /// after the other. Those beyond the size are dropped. Fails only if memory was refused.
     #[tactic(auto, using(crate::proofs::Fronts::filled_long))]
     pub fn new(
         alloc: A,
@@ -70,8 +70,8 @@ impl<A: Allocator> Kept<A> {
         Held::sparse(self.size, self.stretches.beside(&self.blocks), &self.bytes)
     }
 
-    /// The first bytes alone, this many. The blocks behind them are let go, with their memory where
-    /// less is granted.
+    /// Only the first bytes, this many. The blocks beyond them are dropped, with their memory if
+    /// the allocator grants a smaller one.
     #[tactic(auto, using(crate::proofs::Fronts::filled_long, crate::proofs::Views::first_filled))]
     pub fn first(self, count: u32) -> Kept<A>
         requires { count ≤ length self }
@@ -95,7 +95,7 @@ impl<A: Allocator> Kept<A> {
         }
     }
 
-    /// The same image, and some bytes behind it, from a multiple of 16 on.
+    /// The same image, followed by some bytes from a multiple of 16 on.
     pub fn followed(self, at: u32, tail: &[u8]) -> Result<Kept<A>, AllocError>
         requires behind { length self ≤ at }
         requires even { at % 16 ≡ 0 }
@@ -118,7 +118,7 @@ impl<A: Allocator> Kept<A> {
     }
 }
 
-/// Lets go the blocks behind a size.
+/// Drops the blocks beyond a size.
 fn cut<A: Allocator>(
     stretches: &Stretches<A>,
     blocks: &mut Vec<u32, A>,

@@ -5,12 +5,11 @@
 //! - [`HeldImage`] owns either, all bytes or what is kept.
 //! - [`Held`] lends either, a slice or what is kept. A clause sees a list of bytes, with zeros
 //!   where nothing is kept.
-//! - [`read`] reads fields of what is held, with the clauses of `romfs_format::read` for slices.
-//!   Who reads by it is proved once for both.
+//! - [`read`] reads fields of what is held, with the clauses of `romfs_format::read` for slices. A
+//!   reader that uses it is proved once for both.
 //!
-//! `specs/` says which list of bytes blocks stand for (`Blocks`), and which is lent (`Held`) and
-//! owned (`Images`). Which blocks are kept is settled above this crate. It stands on
-//! `romfs_format`.
+//! `specs/` says which list of bytes blocks represent (`Blocks`), and which is lent (`Held`) and
+//! owned (`Images`). Crates above this one decide which blocks are kept. It uses `romfs_format`.
 #![tactic(auto)]
 
 pub mod blocks;

@@ -2,22 +2,23 @@
 //!
 //! All numbers up to the last are cut into stretches of one length, a power of two, with about
 //! sixteen kept numbers each. If small files lie beside huge ones, most stretches have none and a
-//! few have very many: so each is cut once more, into parts of one length, as many as leave four to
-//! eight numbers for each. For a part the number of kept ones before it is noted, and a block is
-//! mostly among the first sixteen from there on, which are tried one by one. A note is a guess: for
-//! a block that is not there it is checked against the numbers at its ends and searched by halves,
-//! and if it is wrong, or there is none, all are. Notes take less than two bytes for each block,
-//! and three steps. A block up to which all are kept is found without: its number is its position.
+//! few have very many. Each is therefore cut once more, into parts of one length, as many as leave
+//! four to eight numbers for each. For a part, the number of kept ones before it is noted. A block
+//! is usually among the first sixteen from there on, which are tried one by one. A note is a guess:
+//! for any other block it is checked against the numbers at its ends and searched by halves. If it
+//! is wrong, or there is none, all numbers are searched. Notes take less than two bytes for each
+//! block, and three steps. If all blocks up to one are kept, it is found without notes: its number
+//! is its position.
 
 ghost use Rattle.std.specs.Prelude.{◌≡◌, ◌<◌, ◌≤◌, ◌^◌, length, slice_index, IsTrue, IfSome};
 ghost use Rattle.romfs_held.specs.Blocks.{Rises, IsRank, HoldsRank};
 
 use std::alloc::{AllocError, Allocator};
 
-/// How many numbers a part is to have at least.
+/// How many numbers a part should have at least.
 const FEW: usize = 4;
 
-/// How many numbers a stretch is to have.
+/// How many numbers a stretch should have.
 const MANY: usize = 4 * FEW;
 
 /// How many numbers from the first of a part on are looked at one by one.
@@ -58,7 +59,8 @@ impl<'a> Numbers<'a> {
         rank_within(self.all, within, block)
     }
 
-    // Where the block stands, if all up to it are there, or it is among the first of its part.
+    // The position of the block, if all blocks up to it are kept, or it is among the first of its
+    // part.
     #[inline(always)]
     fn found_soon(&self, block: u32) -> Option<usize>
         ensures { IfSome result (λ at. (at < length self.now.all.now)
@@ -94,7 +96,7 @@ impl<'a> Numbers<'a> {
         }
     }
 
-    // The same, as it is noted.
+    // The same, from the notes.
     fn noted(&self, block: u32) -> Option<Within> {
         let part = part_of(self.stretches, self.digits, block)?;
         Some(Within {
@@ -114,7 +116,7 @@ struct Stretch {
     digits: u32,
 }
 
-/// The notes on numbers, lent with them.
+/// The notes on numbers, which are lent with them.
 #[derive(Drop)]
 pub(crate) struct Stretches<A: Allocator> {
     all: Vec<Stretch, A>,
@@ -123,7 +125,7 @@ pub(crate) struct Stretches<A: Allocator> {
 }
 
 impl<A: Allocator + Copy> Stretches<A> {
-    /// Nothing yet.
+    /// No notes yet.
     pub(crate) fn new(alloc: A) -> Stretches<A> {
         Stretches {
             all: Vec::new(alloc),
@@ -134,7 +136,7 @@ impl<A: Allocator + Copy> Stretches<A> {
 }
 
 impl<A: Allocator> Stretches<A> {
-    /// Notes it of numbers, in place of others.
+    /// Notes these numbers, instead of earlier ones.
     pub(crate) fn note(&mut self, numbers: &[u32]) -> Result<(), AllocError> {
         self.all.clear();
         self.notes.clear();
@@ -147,7 +149,7 @@ impl<A: Allocator> Stretches<A> {
         Ok(())
     }
 
-    /// Numbers, with what is noted.
+    /// Numbers, with their notes.
     pub(crate) fn beside<'a>(&'a self, numbers: &'a [u32]) -> Numbers<'a>
         ensures { result.all.now ≡ numbers.now }
     {
@@ -160,14 +162,14 @@ impl<A: Allocator> Stretches<A> {
     }
 }
 
-/// Positions of numbers, from the lowest to behind the highest.
+/// Positions of numbers, from the lowest to the one after the highest.
 #[derive(Clone, Copy)]
 pub(crate) struct Within {
     low: usize,
     high: usize,
 }
 
-// Where the note of a number's part is, of stretches in which a number has this many digits.
+// Where the note of a number's part is, if a number has this many digits within its stretch.
 #[inline(always)]
 fn part_of(stretches: &[Stretch], digits: u32, number: u32) -> Option<usize>
     ensures { IfSome result (λ part. part < 2 ^ 32) }
@@ -183,7 +185,8 @@ fn without(number: u32, digits: u32) -> u32 {
     number >> (digits % 32)
 }
 
-// The binary digits of a number within stretches that have not many of these numbers each.
+// How many binary digits a number has within its stretch, if stretches are to have few of these
+// numbers each.
 fn digits_for(numbers: &[u32]) -> u32 {
     match numbers.last() {
         None => 0,
@@ -213,7 +216,7 @@ fn count_numbers<A: Allocator>(
     Ok(())
 }
 
-// Cuts stretches whose numbers were counted into parts, and says how many these are together.
+// Cuts stretches, whose numbers were counted, into parts, and returns how many parts there are.
 fn cut_into_parts(stretches: &mut [Stretch], digits: u32) -> u32 {
     let mut parts: u32 = 0;
     let mut number: u32 = 0;

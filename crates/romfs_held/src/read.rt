@@ -196,8 +196,8 @@ pub fn name_of<'a>(image: &Held<'a>, at: u32, name_len: u32) -> &'a [u8]
     }
 }
 
-/// This many bytes from a place on, where all bytes of the image are held, or these without a gap
-/// and no more than a header and its name can have; else none.
+/// This many bytes from a place on, if all bytes of the image are held, or if these are held
+/// without a gap and are no more than a header and its name can have; otherwise none.
 #[inline(always)]
 #[tactic(auto, using(crate::proofs::Fronts::filled_long))]
 pub fn slice_at<'a>(image: &Held<'a>, at: usize, len: usize) -> Option<&'a [u8]>
@@ -217,7 +217,7 @@ pub fn slice_at<'a>(image: &Held<'a>, at: usize, len: usize) -> Option<&'a [u8]>
     }
 }
 
-/// Puts bytes from a place on at the front of a room, and says how many: at least one.
+/// Puts bytes from a place on at the front of a room, and returns how many: at least one.
 #[tactic(auto, using(crate::proofs::Fronts::filled_long))]
 pub fn copy_some(image: &Held<'_>, at: usize, room: &mut [u8]) -> usize
     requires at { at < length image.now }

@@ -15,7 +15,7 @@ use romfs_rows::{RowLists, Rows};
 use romfs_rules::first_fault;
 use std::alloc::{AllocError, Allocator};
 
-/// What bytes are checked to be.
+/// What bytes can be checked to be.
 pub trait Check: Sized {
     /// The allocator.
     type Memory;
@@ -42,13 +42,13 @@ impl<A: Allocator + Copy> Check for Image<A> {
     /// Checks that bytes are an image by the usual profile, and keeps the accessible ones: as many
     /// as the full size says (romfs.rst, the volume header). Bytes after them are not looked at.
     ///
-    /// `Broken` names the image's fault: the first broken rule of the volume header; else, of all
-    /// broken rules of file headers, that at the least place, and there the first; else a path that
-    /// is too deep. `Memory` only if memory was refused.
+    /// `Broken` names the image's fault: the first broken rule of the volume header; otherwise, of
+    /// all broken rules of file headers, the one at the least place, and the first there; otherwise
+    /// a path that is too deep. `Memory` only if memory was refused.
     ///
-    /// It takes n log n steps in headers, whatever the image: chains may merge, loop and lead
-    /// anywhere. Beside the image it takes at most a byte for each 40 of its bytes and 96 for each
-    /// header that is reached, and keeps none of it.
+    /// It takes n log n steps in headers, for any image: chains may merge, loop and lead anywhere.
+    /// Beside the image it takes at most a byte for each 40 of its bytes and 96 for each header
+    /// that is reached, and keeps none of it.
     fn check(alloc: A, bytes: Vec<u8, A>) -> Result<Image<A>, CheckFault>
         ensures ok { IfOk result (λ image. IsChecked Profile.Usual bytes.items image.bytes) }
         ensures whole { IfOk result (λ image. image.whole ≡ true) }
@@ -73,16 +73,15 @@ impl<A: Allocator + Copy> Check for Image<A> {
     }
 }
 
-/// Checks that what is held of an image keeps the rules of a profile, and keeps what is held of its
-/// accessible bytes, with the rows of its attribute trailer beside it, and the list of extended
-/// attributes of each: none where it has no trailer, or the profile is one without attributes. A
-/// row takes 28 bytes, and 4 more where the trailer has lists, which are kept once. Of an image
-/// that stays in its file nothing else is looked at: of a trailer that was not kept nothing is
-/// said.
+/// Checks that what is held of an image keeps the rules of a profile. Returns what is held of its
+/// accessible bytes, with the rows of its attribute trailer and the list of extended attributes of
+/// each; there are none without a trailer, or under a profile without attributes. A row takes 28
+/// bytes, and 4 more if the trailer has lists, which are kept once. If the image stays in its file,
+/// nothing else is looked at, and nothing is said about a trailer that was not kept.
 ///
-/// `Broken` names the fault as [`Check::check_as`] does; of what was gathered from known bytes it
-/// is the fault of these ([`laws`](crate::laws)). `Memory` comes only if memory was refused. It
-/// takes the steps and the memory of that check.
+/// `Broken` names the fault as [`Check::check_as`] does; for what was gathered from known bytes, it
+/// is the fault of these ([`laws`](crate::laws)). `Memory` only if memory was refused. It takes the
+/// steps and the memory of that check.
 #[tactic(auto, using(romfs_format::proofs::Faults::profile_sound))]
 pub fn check_held<A: Allocator + Copy>(
     alloc: A,
@@ -100,7 +99,7 @@ pub fn check_held<A: Allocator + Copy>(
     Ok((Image::of_sound(held), rows, lists))
 }
 
-/// Holds an image to the rules of a profile.
+/// Checks an image by the rules of a profile.
 fn hold<A: Allocator + Copy>(alloc: A, image: &Held<'_>, profile: Profile) -> Result<(), CheckFault>
     ensures ok { IfOk result (λ _. IsSound profile image.now) }
     ensures err { IfErr result (IsRefusal profile image.now) }

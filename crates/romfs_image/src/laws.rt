@@ -1,4 +1,4 @@
-//! What a check of what is kept of an image says of the image.
+//! What a check of what is kept of an image says about the image.
 
 ghost use Rattle.std.specs.Prelude.{◌≡◌, ◌↔◌, ℕ, List, IsTrue};
 ghost use Rattle.romfs_format.specs.declared.rule.Profile.{Profile};

@@ -1,4 +1,4 @@
-//! Why bytes are not taken for an image.
+//! Why bytes are refused as an image.
 
 ghost use Rattle.std.specs.Prelude.{◌≡◌};
 ghost use Rattle.romfs_image.specs.declared.refusal.CheckFault.TheVariants.{Memory};
@@ -8,7 +8,7 @@ use std::alloc::{AllocError, AllocFailed};
 use std::error::Error;
 use std::fmt;
 
-/// Why bytes are not taken for an image.
+/// Why bytes are refused as an image.
 #[derive(Clone, Copy, Debug, PartialEq, Eq)]
 pub enum CheckFault {
     /// They break a rule.

@@ -1,6 +1,6 @@
 //! Images made for tests and examples.
 //!
-//! Nothing is promised of what these functions write: tests show it.
+//! Nothing is promised about what these functions write: tests show it.
 
 ghost use Rattle.std.specs.Prelude.{◌≡◌, ◌≤◌, length, IfSome, IfOk};
 ghost use Rattle.romfs_format.specs.declared.limits.TheConstants.{HEAD_SIZE};

@@ -44,7 +44,7 @@ module _ (kept : ℕ → Bool) (a xs : List ℕ) (agrees : Agrees kept a xs) whe
       let f = length-drop p a in
       (omega arith, omega arith)
 
-  -- the name at a place, where it is kept
+  -- the name at a place, if it is kept
   pub text_alike : (p : ℕ) → IsKeptText kept a p → text_at a p ≡ text_at xs p
   text_alike p k =
       let e = ended_same (name_field a p) (name_field xs p) (field_long p) (λ i l n.
@@ -54,14 +54,14 @@ module _ (kept : ℕ → Bool) (a xs : List ℕ) (agrees : Agrees kept a xs) whe
       ∙ sym (field_at xs p i f.0)) in
       ap (λ t. if_within (length a) p t) e ∙ ap (λ n. if_within n p (ended (name_field xs p))) agrees.long
 
-  -- a word of which the bytes that there are are kept
+  -- a word, if those of its bytes that exist are kept
   pub word_alike : (p : ℕ) → ((i : ℕ) → i < 4 → p + i < length a → IsTrue (kept (p + i))) → word a p ≡ word xs p
   word_alike p k = word_same a xs p p (λ i l. elim (cases_lt (p + i) (length a)) [
     | inl m ↦ agrees.same (p + i) (k i l m)
     | inr m ↦ get_or_past a (p + i) 0 m ∙ sym (get_or_past xs (p + i) 0 (let e = agrees.long in omega arith))
   ])
 
-  -- a header with its name and the padding, where they are kept
+  -- a header with its name and the padding, if they are kept
   pub bytes_alike : (h : ℕ) (n : List ℕ) → name a h ≡ Some n → ((i : ℕ) → i < 16 → h + i < length a → IsTrue (kept (h + i)))
       → IsKeptText kept a (h + HEAD_SIZE) → header_bytes a h n ≡ header_bytes xs h n
   unfolding header_bytes
@@ -82,7 +82,7 @@ module _ (kept : ℕ → Bool) (a xs : List ℕ) (agrees : Agrees kept a xs) whe
       ])
       ∙ sym (get_or-drop h xs i 0) ∙ sym (get_or-take m (drop h xs) i 0 (omega arith)))
 
-  -- the target of a symbolic link, where it is kept
+  -- the target of a symbolic link, if it is kept
   pub bytes_of_link : (h : ℕ) (n : List ℕ) → IsKeptTarget kept a h → kind a h ≡ SymLink → size a h ≤ MAX_TARGET_SIZE → name a h ≡ Some n
       → take (size a h) (drop (data_at h n) a) ≡ take (size a h) (drop (data_at h n) xs)
   bytes_of_link h n t k l e = same (size a h) (data_at h n) (λ i m o. t.each k l n e i m o)

@@ -1,6 +1,6 @@
--- What is kept of a trailer is judged as the trailer is (judged), and says the same rows and lists where
--- it is right (rows_same, lists_same). Words and rows that lie in it are the trailer's (word_kept, row_kept). Where the
--- head alone is kept the trailer is broken, since rows that are right lie 16 bytes apart (apart, few).
+-- What is kept of a trailer is judged as the trailer is (judged), and says the same rows and lists if it is right
+-- (rows_same, lists_same). Words and rows that lie in it are the trailer's (word_kept, row_kept). If only the head is
+-- kept, the trailer is broken, since rows that are right lie 16 bytes apart (apart, few).
 use Rattle.std.proofs.Common.{◌≡◌, ◌∙◌, sym, ap, subst, ℕ, zero, suc, ◌+◌, ◌*◌, ◌/◌, ◌%◌, ◌^◌, ◌<◌, ◌≤◌, ◌⊎◌, ◌↔◌, inl, inr, List, [], ◌∷◌, ◌++◌, length, take, drop, IsTrue, refl, arith, length-take}
 use Rattle.std.specs.Prelude.{nat_eq, codes}
 use Rattle.std.specs.List.{starts_with}
@@ -24,7 +24,7 @@ row p m u g s n = record { place = p; mode = m; uid = u; gid = g; seconds = s; n
 same_row : (p q m n u v g h s t x y : ℕ) → p ≡ q → m ≡ n → u ≡ v → g ≡ h → s ≡ t → x ≡ y → row p m u g s x ≡ row q n v h t y
 same_row p q m n u v g h s t x y a b c d e f = cc
 
--- rows that are right lie 16 bytes apart, so that there are few
+-- rows that are right lie 16 bytes apart, so there are few
 module _ (full : ℕ) (t : List ℕ) (k : ℕ) (rows : AreRows full t k) where
   apart : (i : ℕ) → i < k → 16 * i ≤ (row_of t i).place
   apart zero l = omega arith
@@ -170,7 +170,7 @@ module _ (t : List ℕ) (n : ℕ) where
     whole_rows : first_rows (take n t) (row_count (take n t)) ≡ first_rows t (row_count t)
     whole_rows = ap (λ k. first_rows (take n t) k) count_kept ∙ first_kept (row_count t) (omega arith)
 
-    -- the lists of rows, where the part is right
+    -- the lists of rows, if the part is right
     module _ (right : IsTrue (has_part t) → IsPart (row_count t) (mode_of t) (part t)) where
       list_kept : (i : ℕ) → i < row_count t → extended_of (take n t) i ≡ extended_of t i
       list_kept i l =

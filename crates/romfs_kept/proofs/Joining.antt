@@ -1,5 +1,5 @@
 -- Blocks in order and their bytes: one that is above all others goes to their end (pushed), and what is
--- joined of pieces in order holds what these hold (Joined).
+-- joined from pieces in order holds what these hold (Joined).
 use Rattle.std.proofs.Common.{◌≡◌, ◌≢◌, ◌∙◌, sym, ap, subst, ℕ, ◌+◌, ◌-◌, ◌*◌, ◌/◌, ◌%◌, ◌<◌, ◌≤◌, inl, inr, List, [], ◌∷◌, ◌++◌, length, get_or, refl, arith, length-append, Result, Ok, Err, IfOk}
 use Rattle.std.specs.List.{Contains}
 use Rattle.std.specs.List.Sorted.{IsNonDecreasingBy}
@@ -213,7 +213,7 @@ joined_all pieces blocks bytes n e w = record {
         let b : q.piece.block ≡ p / 16 = q.is ∙ f in
         q.same p (sym f) ∙ g ∙ ap (λ i. get_or xs i 0) (let t : 16 * q.piece.block + p % 16 ≡ p = omega arith in t)
 
--- what is packed of sorted pieces is filled with what they held before the sort
+-- what is packed from sorted pieces is filled with what they held before the sort
 pub packed_filled : (old pieces : List Piece) (size : ℕ) (blocks bytes : List ℕ) → IsSortedOut old pieces → IsPacked pieces blocks bytes
     → IsFilled old size (filled size blocks bytes)
 packed_filled old pieces size blocks bytes s k = record {
@@ -221,7 +221,7 @@ packed_filled old pieces size blocks bytes s k = record {
       ∙ k.same xs (record { each = λ x c. r.each x (s.fewer.from x c) }) p (s.fewer.stays (p / 16) h);
 }
 
--- what is made of a list that is filled is filled
+-- what is made from a list that is filled is filled
 pub filled_if_ok : {E : Type 0} (pieces : List Piece) (size : ℕ) (xs : List ℕ) (result : Result (List ℕ) E)
     → IfOk result (λ kept. kept ≡ xs) → IsFilled pieces size xs → IfOk result (IsFilled pieces size)
 filled_if_ok pieces size xs (Ok kept) e f = subst (λ a. IsFilled pieces size a) (sym e) f

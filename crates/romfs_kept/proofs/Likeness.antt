@@ -1,6 +1,6 @@
 -- Two lists that look the same at the headers of a closed set lead to the same headers, and break the
--- same rules of file headers (breaks_alike). Each relation goes over from one list to the other; for
--- what is denied it comes back, since looking the same goes both ways. So paths lead to the same headers
+-- same rules of file headers (breaks_alike). Each relation carries over from one list to the other, and
+-- its denial too, since looking the same goes both ways. Paths therefore lead to the same headers
 -- (same_path), hard links to the same ends (same_end), and targets are the same (same_target).
 use Rattle.std.proofs.Common.{◌≡◌, ◌≢◌, ◌∙◌, sym, ap, subst, ℕ, zero, suc, ◌+◌, ◌<◌, ◌≤◌, ◌%◌, ◌/◌, ◌^◌, ◌⊎◌, inl, inr, List, [], ◌∷◌, Bool, IsTrue, length, take, drop, Option, Some, None, refl, arith}
 use Rattle.std.specs.Prelude.{IsSome, IsSomeAnd, IsNone, MatchOption}

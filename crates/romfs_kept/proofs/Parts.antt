@@ -1,6 +1,6 @@
 -- What is kept of a part after the rows is judged as the part is (part_judged): nothing if there is
--- none, all if it is there in full, and otherwise its letters, which are broken as it is. Where it is
--- right it has the same lists (part_lists).
+-- none, all if it is complete, and otherwise its letters, which are broken as it is. If it is right
+-- it has the same lists (part_lists).
 use Rattle.std.proofs.Common.{◌≡◌, ◌∙◌, sym, ap, subst, ℕ, ◌+◌, ◌*◌, ◌%◌, ◌^◌, ◌<◌, ◌≤◌, ◌⊎◌, ◌↔◌, inl, inr, List, [], length, take, drop, IsTrue, if◌then◌else◌, refl, arith, length-take, length-take-le}
 use Rattle.std.specs.Prelude.{Bool, true, false, nat_eq, codes}
 use Rattle.std.specs.List.{starts_with}
@@ -31,7 +31,7 @@ begins_kept x k l = ap (λ xs. pointwise nat_eq (codes "-attr02-") xs) (take-tak
 word_kept : (x : List ℕ) (n p : ℕ) → p + 4 ≤ n → word (take n x) p ≡ word x p
 word_kept x n p l = word_same (take n x) x p p (λ i m. get_or-take n x (p + i) 0 (omega arith))
 
--- a part that is kept whole
+-- a part that is kept in full
 module _ (x : List ℕ) (low : 16 ≤ part_size x) (high : part_size x ≤ length x) where
   abbrev kept : List ℕ
   kept = take (part_size x) x

@@ -1,5 +1,5 @@
 -- What a room has of the window (room_read). A part of what the source has (within_less), as long as what is shown of it (within_shown,
--- room_shown), lacks only where a read may fail (fails_within).
+-- room_shown), lacks bytes only if a read may fail (fails_within).
 use Rattle.std.proofs.Common.{◌≡◌, ◌∙◌, sym, ap, ℕ, ◌+◌, ◌-◌, ◌<◌, ◌≤◌, min, List, ◌++◌, length, take, drop, get_or, replicate, inl, inr, arith, length-append, length-drop, length-take-le}
 use Rattle.std.proofs.lemmas.Bool.{cases_lt}
 use Rattle.std.proofs.lemmas.List.{get_or-drop, get_or-take, get_or_append_left, get_or-append_right, get_or_past, get_or-replicate, length-replicate}

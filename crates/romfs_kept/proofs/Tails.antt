@@ -20,7 +20,7 @@ use Rattle.romfs_kept.specs.Reads.{HasBytesAt, IsHeld}
 use Rattle.romfs_kept.specs.Tails.{BeginsTrailer, BeginsWith, IsPartEnd, IsRoom, IsTail, IsTailEnd, end_of}
 use Rattle.romfs_kept.proofs.Reading.{room_shown}
 
--- the letters do not stand at a place
+-- the letters are not at a place
 pub and_false : (x y : Bool) → y ≡ false → (x && y) ≡ false
 and_false true y e = e
 and_false false y e = refl
@@ -48,7 +48,7 @@ too_short source place room letters r0 l e = record {
       sym (short_front (drop place b) letters (omega arith));
 }
 
--- bytes that were read from a place on are the first that stand there
+-- bytes that were read from a place on are the first ones there
 read_front : (b : List ℕ) (place n : ℕ) (tail : List ℕ) → HasBytesAt b place tail → length tail ≡ min n (length (drop place b))
     → tail ≡ take n (drop place b)
 read_front b place n tail h e =
@@ -81,7 +81,7 @@ word_read : (b : List ℕ) (place : ℕ) (tail : List ℕ) → HasBytesAt b plac
 word_read b place tail h l = word_same tail (drop place b) 8 8 (λ i m.
     h.same (8 + i) (omega arith) ∙ sym (get_or-drop place b (8 + i) 0))
 
--- how much is kept of a part: nothing of none, all of one in full, else the letters
+-- how much is kept of a part: nothing of none, all of one in full, otherwise the letters
 pub part_none : (source : Source) (place : ℕ) → BeginsWith source place (codes "-attr02-") false → IsPartEnd source place 0
 part_none source place e0 = record {
   each = λ b v.
@@ -195,11 +195,11 @@ tail_read source place room full end tail p r0 s0 e0 h0 l = record {
       (sym (ap (begins_trailer b) p) ∙ sym s, all ∙ ap (λ n. kept_tail full (drop n b)) p);
 }
 
--- how many bytes stand behind a place
+-- how many bytes follow a place
 pub room_is : (source : Source) (size place room : ℕ) → IsSizeOf source size → room ≡ size - place → IsRoom source place room
 room_is source size place room s e = record { size = size; is = s; left = e }
 
--- the kept tail behind what was gathered
+-- the kept tail after what was gathered
 module _ (b front tail a : List ℕ) (g : IsGatheredOf b front) (begins : begins_trailer b (padded (reach b)) ≡ true)
     (is : tail ≡ kept_tail (reach b) (drop (padded (reach b)) b)) (f : IsFollowed front (padded (reach b)) tail a) where
   at : ℕ

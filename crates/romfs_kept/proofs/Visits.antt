@@ -1,5 +1,5 @@
--- A header that was read is added as it stands in the image, with its name (text_added) and its
--- target, which begins where the name's padding ends (head_end).
+-- A header that was read is added as it is in the image, with its name (text_added) and its target,
+-- which begins where the name's padding ends (head_end).
 use Rattle.std.proofs.Common.{◌≡◌, ◌≢◌, ◌∙◌, sym, ap, subst, ℕ, ◌+◌, ◌-◌, ◌*◌, ◌/◌, ◌%◌, ◌<◌, ◌≤◌, min, inl, inr, List, length, take, get_or, Option, Some, None, refl, arith, length-take, length-take-le}
 use Rattle.std.specs.Option.{unwrap_or}
 use Rattle.std.proofs.lemmas.Bool.{cases_lt}
@@ -77,7 +77,7 @@ head_all s size at None room r n e = record { each = λ b v. head_unended (take 
 head_all s size at (Some count) room r n e = record { each = λ b v. head_ended (take size b) at count room (r.each b v) e }
 
 module _ (xs head : List ℕ) (at : ℕ) (h : IsHeadAt xs at head) where
-  -- the first zero byte behind the header is in the last block
+  -- the first zero byte after the header is in the last block
   read : (i : ℕ) → i < length head → get_or xs (at + i) 0 ≡ get_or head i 0
   read i l = sym (h.same.same i l)
 
@@ -105,7 +105,7 @@ module _ (xs head : List ℕ) (at : ℕ) (h : IsHeadAt xs at head) where
     pub head_len : length head ≡ 16 + (k + 1 + 15) / 16 * 16
     head_len = (let a = above in let b = below in let w = h.whole in omega arith)
 
-  -- the target begins behind what was read
+  -- the target begins after what was read
   pub head_end : (n : List ℕ) → name xs at ≡ Some n → data_at at n ≡ at + length head
   head_end n e =
       let t = name_ends xs n (at + 16) e in
@@ -170,7 +170,7 @@ has_visited s size at head old mid new first second third w h r e f g t = record
       (t.each b v) second e f g;
 }
 
--- nothing was added where the target has no bytes
+-- nothing was added if the target has no bytes
 pub target_none : (s : Source) (end from count first third : ℕ) (old : List Piece) → count ≡ 0
     → (kind_of (first % 8) ≡ SymLink → third ≤ MAX_TARGET_SIZE → count ≡ min third (end - from))
     → HasAddedTarget s end from first third old old

@@ -1,5 +1,5 @@
 -- What was gathered from some bytes breaks the rules that they break (twins), and so has their fault (fault_goes): the volume's rules look
--- at the first bytes and at the length, and where the full size is kept, the accessible bytes are what was gathered.
+-- at the first bytes and at the length, and if the full size is kept, the accessible bytes are what was gathered.
 use Rattle.std.proofs.Common.{◌≡◌, ◌≢◌, ◌∙◌, sym, ap, subst, ℕ, ◌+◌, ◌%◌, ◌^◌, ◌<◌, ◌≤◌, ◌⊎◌, inl, inr, min, List, ◌++◌, IsTrue, length, take, drop, get_or, Option, Some, None, if◌then◌else◌, refl, arith, length-take, length-take-le, take-append-drop, take_all, ◌==◌}
 use Rattle.std.specs.Prelude.{nat_le, IsNone}
 use Rattle.std.proofs.lemmas.Bool.{cases_lt, eqb-true}
@@ -156,7 +156,7 @@ module _ (b a : List ℕ) (g : IsGatheredOf b a) where
     names = names;
   }
 
-  -- where the full size is kept
+  -- if the full size is kept
   module _ (low : 16 ≤ word b 8) (high : word b 8 ≤ length b) where
     size_is : length a ≡ word b 8
     size_is = (let e = g.long in
@@ -220,7 +220,7 @@ module _ (b a : List ℕ) (g : IsGatheredOf b a) where
     all_back profile none Attributes p x = absurd (none x.0)
     all_back profile none r p x = header_back profile r p x
 
--- two lists of which the volume looks the same, and that break the same rules where it keeps its full
+-- two lists of which the volume looks the same, and that break the same rules if it keeps its full
 -- size
 pub record Twins (profile : Profile) (a b : List ℕ) : Type 0 where
   pub volume : SameVolume a b

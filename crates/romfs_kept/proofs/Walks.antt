@@ -55,7 +55,7 @@ reached s whole full size front len l w r n f small e = record {
   each = λ b v. reach_is b front whole (w ∙ ap (λ k. min k 4294967295) (l.shown b v)) (r.each b v) n full size f small e;
 }
 
--- the volume name lies in the first bytes, and so they say where the root stands
+-- the volume name lies in the first bytes, and so they say where the root is
 pub front_near : (xs front : List ℕ) → length front ≡ 512 → HasBytesAt xs 0 front
     → IsFront xs 16 256 (take (length front - 16) (drop 16 front))
 front_near xs front n h = record {
@@ -225,7 +225,7 @@ under_start s end start pieces none todo noted more f n p = record {
   );
 }
 
--- behind the end there are zeros
+-- after the end there are zeros
 word_past : (xs : List ℕ) (p : ℕ) → length xs ≤ p → word xs p ≡ 0
 unfolding word
 word_past xs p l = word_same xs [] p 0 (λ i m. get_or_past xs (p + i) 0 (omega arith)) ∙ refl

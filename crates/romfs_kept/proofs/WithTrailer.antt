@@ -1,7 +1,7 @@
 -- What was gathered with its trailer breaks the rules that the bytes break (twins_forth, twins_back),
 -- those of attributes, too (broken_forth, broken_back), and shows the same rows and lists (rows_alike,
--- lists_alike). Its front
--- looks the same to the volume's rules (front_volume), and has the same accessible bytes (image_is).
+-- lists_alike). Its front looks the same to the volume's rules (front_volume), and has the same
+-- accessible bytes (image_is).
 use Rattle.std.proofs.Common.{◌≡◌, ◌∙◌, sym, ap, subst, ℕ, ◌+◌, ◌^◌, ◌<◌, ◌≤◌, ◌&&◌, inl, inr, min, Bool, List, [], length, take, drop, get_or, Option, if◌then◌else◌, refl, arith, length-drop, length-take, take_all}
 use Rattle.std.specs.Prelude.{nat_eq, nat_le, nat_lt, codes}
 use Rattle.std.specs.List.{starts_with}
@@ -28,7 +28,7 @@ use Rattle.romfs_kept.proofs.Heads.{judged, rows_same, lists_same, letters_same}
 use Rattle.romfs_kept.proofs.Tails.{and_false}
 use Rattle.romfs_kept.proofs.Volumes.{SameVolume, same_volume, volume_sym, volume_goes, header_forth, header_back, root_forth, root_back, roots, Twins, fault_of_goes}
 
--- fewer than 16 bytes are looked at only where there are no more
+-- fewer than 16 bytes are looked at only if there are no more
 reach_short : (b : List ℕ) → reach b < 16 → length b ≡ reach b
 reach_short b l = elim (cases_lt (word b 8) HEAD_SIZE) [
   | inl q ↦ (let f : (if nat_le HEAD_SIZE (word b 8) then word b 8 else HEAD_SIZE) ≡ HEAD_SIZE = grind (arith, nat_tests) in omega arith)
@@ -125,7 +125,7 @@ module _ (b a : List ℕ) (g : IsGatheredWithTrailerOf b a) where
         names = ap (λ xs. text_at xs HEAD_SIZE) image_front ∙ v.names;
       }
 
-  -- where the full size is kept
+  -- if the full size is kept
   module _ (least : 16 ≤ word b 8) (most : word b 8 ≤ length b) where
     full_is : word b 8 ≡ reach b
     full_is = sym (reach_full b least most)

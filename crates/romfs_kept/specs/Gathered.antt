@@ -14,7 +14,7 @@ pub record IsGatheredOf (b a : List ℕ) : Type 0 where
   pub headers : ℕ → Bool
   pub closed : IsClosed (is_same (take (length a) b) a) headers (take (length a) b)
 
--- the same of whatever bytes the source shows
+-- the same of any bytes that the source shows
 abbrev pub IsGathered : Source → List ℕ → Type 0
 IsGathered source a = IfShown source (λ b. IsGatheredOf b a)
 
@@ -47,7 +47,7 @@ kept_end full t =
 abbrev pub kept_tail : ℕ → List ℕ → List ℕ
 kept_tail full t = take (kept_end full t) t
 
--- what was gathered, and behind it what is kept of the trailer, if one begins there
+-- what was gathered, followed by what is kept of the trailer, if one begins there
 pub record IsGatheredWithTrailerOf (b a : List ℕ) : Type 0 where
   pub short : length a ≤ length b
   pub front : IsGatheredOf b (take (reach b) a)
@@ -55,6 +55,6 @@ pub record IsGatheredWithTrailerOf (b a : List ℕ) : Type 0 where
   pub tail : begins_trailer b (padded (reach b)) ≡ true
       → drop (padded (reach b)) a ≡ kept_tail (reach b) (drop (padded (reach b)) b)
 
--- the same of whatever bytes the source shows
+-- the same of any bytes that the source shows
 abbrev pub IsGatheredWithTrailer : Source → List ℕ → Type 0
 IsGatheredWithTrailer source a = IfShown source (λ b. IsGatheredWithTrailerOf b a)

@@ -26,7 +26,7 @@ pub record IsOneMore (old : List Piece) (one : Piece) (new : List Piece) : Type 
   pub stays : (b : ℕ) → HasBlock old b → HasBlock new b
   pub has : HasBlock new one.block
 
--- the piece is one of so many that these bytes have from the first block on
+-- the piece is one of this many that these bytes have from the first block on
 pub record IsOfRow (first : ℕ) (bytes : List ℕ) (count : ℕ) (x : Piece) : Type 0 where
   pub place : ℕ
   pub below : place < count

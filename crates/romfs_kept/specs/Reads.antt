@@ -16,7 +16,7 @@ pub record AreWithin (source : Source) (n : ℕ) : Type 0 where
 abbrev pub IsCause : Source → GatherFault → Type 0
 IsCause source fault = (fault ≡ Memory) ⊎ MayFail source
 
--- the room has the bytes of xs from the place on, and zeros behind their end
+-- the room has the bytes of xs from the place on, and zeros after their end
 pub record HasBytesAt (xs : List ℕ) (at : ℕ) (room : List ℕ) : Type 0 where
   pub same : (i : ℕ) → i < length room → get_or room i 0 ≡ get_or xs (at + i) 0
 
@@ -40,7 +40,7 @@ pub record IsEnded (near : List ℕ) (count : ℕ) : Type 0 where
 pub record IsUnended (near : List ℕ) : Type 0 where
   pub runs : (i : ℕ) → 16 ≤ i → i < length near → get_or near i 0 ≢ 0
 
--- the end of the name in this front, if it is there
+-- the end of the name in this front, if the name ends there
 abbrev pub IsEndIn : List ℕ → Option ℕ → Type 0
 IsEndIn near end = MatchOption end (IsUnended near) (IsEnded near)
 

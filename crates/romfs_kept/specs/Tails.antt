@@ -36,7 +36,7 @@ end_of rows room full =
 abbrev pub IsTailEnd : Source → ℕ → ℕ → ℕ → Type 0
 IsTailEnd source place full end = IfShown source (λ b. end ≡ kept_end full (drop place b))
 
--- no trailer begins behind the full size
+-- no trailer begins after the full size
 abbrev pub IsNoTail : Source → ℕ → Type 0
 IsNoTail source full = IfShown source (λ b. begins_trailer b (padded full) ≡ false)
 

@@ -1,4 +1,4 @@
--- A walk over the headers of an image: what it has added, and what it has still to look at.
+-- A walk over the headers of an image: what it has added, and what it still has to look at.
 use Rattle.std.specs.Prelude.{◌≡◌, ◌≢◌, ℕ, ◌+◌, ◌*◌, ◌/◌, ◌%◌, ◌<◌, ◌≤◌, ◌==◌, ◌&&◌, ◌||◌, ◌⊎◌, List, [], length, take, get_or, Bool, false, nat_le, IsTrue, Some, Contains}
 use Rattle.devices.specs.Sources.{Source, IfShown}
 use Rattle.romfs_format.specs.declared.head.Kind.TheVariants.{Directory, HardLink, SymLink}
@@ -46,7 +46,7 @@ abbrev pub HasVisited : Source → ℕ → ℕ → List Piece → List Piece →
 HasVisited source end at old new first second =
     IfShown source (λ b. IsVisit (take end b) at old new first second)
 
--- the first bytes were added, and the root is there
+-- the first bytes were added, and the root is at this place
 pub record IsFrontAdded (xs : List ℕ) (root_at : ℕ) (new : List Piece) : Type 0 where
   pub right : AreRight xs new
   pub has : (i : ℕ) → i < 32 → HasBlock new i
@@ -60,7 +60,7 @@ HasFront source end root_at new = IfShown source (λ b. IsFrontAdded (take end b
 abbrev pub is_noted : ℕ → List Bool → ℕ → Bool
 is_noted size slots h = (h % 16 == 0) && (nat_le size h || get_or slots (h / 16) false)
 
--- a place waits that was not noted before, if the test says so
+-- a place now waits, if it was not noted before and the test says so
 pub record HasPushed (old_todo new_todo : List ℕ) (old new : ℕ → Bool) (test : Bool)
     (place : ℕ) : Type 0 where
   pub grown : (h : ℕ) → Contains old_todo h → Contains new_todo h

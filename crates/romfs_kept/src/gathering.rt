@@ -13,6 +13,7 @@ ghost use Rattle.romfs_kept.specs.Gathered.{IsGathered, IsReach};
 ghost use Rattle.romfs_kept.specs.Walk.{HasFront, is_noted, HasPushed, HasWalked};
 
 use crate::fault::GatherFault;
+use crate::grain::Grain;
 use crate::packing::pack;
 use crate::pieces::Piece;
 use crate::visit::{keep_row, visit};
@@ -26,27 +27,28 @@ use romfs_held::{BLOCK_SIZE, Kept};
 use romfs_sets::SparseSlots;
 use std::alloc::{AllocError, Allocator};
 
-/// Keeps of an image its first 512 bytes, and each header that the root leads to, with its name
-/// and, of a symbolic link, its target. Of bytes behind the full size nothing is looked at. Nothing
-/// is judged: what leads outside or in a loop is followed no further, and what is no image is
-/// gathered like any other bytes.
+/// Keeps the first 512 bytes of an image, and each header that the root leads to, with its name
+/// and, for a symbolic link, its target. Bytes after the full size are not looked at. Nothing is
+/// judged: what leads outside or in a loop is followed no further, and bytes that are not an image
+/// are gathered like any others.
 ///
 /// `Unread` only if a read failed, or if the bytes end before the reported size; `Memory` only if
-/// memory was refused. A read of bytes in memory never fails, and one under a digest only if the
-/// files are not the named ones.
+/// memory was refused. A read of bytes in memory never fails. One under a digest fails only if a
+/// read of the files does, or if they are not the named ones.
 ///
-/// A header is read once. It takes two reads at most, and a third for the target of a symbolic link
-/// whose name has 48 bytes or more; adjacent headers take fewer. Memory is taken in proportion to
-/// headers, names and targets, and a byte for each 2,048 of the image; n log n steps, in whatever
-/// order they come.
+/// A header is read once. It takes two reads at most, each extended to the grain of the source, and
+/// a third for the target of a symbolic link whose name has 48 bytes or more; adjacent headers take
+/// fewer. Memory is taken in proportion to headers, names and targets, and a byte for each 2,048 of
+/// the image. It takes n log n steps, in any order of headers.
 pub fn gather<S: Contents, A: Allocator + Copy>(
     alloc: A,
     source: &S,
+    grain: Grain,
 ) -> Result<Kept<A>, GatherFault>
     ensures ok { IfOk result (IsGathered (S.source source.now)) }
     ensures err { IfErr result (IsCause (S.source source.now)) }
 {
-    let mut window = Window::new(alloc);
+    let mut window = Window::new(alloc, grain);
     let size = full_size(source, &mut window)?;
     let mut pieces = Vec::new(alloc);
     let root = keep_front(source, &mut window, size, &mut pieces)?;
@@ -84,7 +86,7 @@ fn least(full: u32) -> u32
     }
 }
 
-/// Adds the first bytes, and gives the place of the root.
+/// Adds the first bytes, and returns the place of the root.
 fn keep_front<S: Contents, A: Allocator>(
     source: &S,
     window: &mut Window<A>,
@@ -159,7 +161,7 @@ fn walk<S: Contents, A: Allocator + Copy>(
     Ok(())
 }
 
-/// Lets a place wait, if it is to, and if it is inside and was not noted before.
+/// Lets a place wait, if requested, and if it is inside and was not noted before.
 fn note<A: Allocator>(
     todo: &mut Vec<u32, A>,
     noted: &mut SparseSlots<A>,

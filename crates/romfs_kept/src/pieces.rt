@@ -1,9 +1,8 @@
 //! Blocks as they are read: in any order, and some more than once.
 //!
-//! The list of them grows to twice its size. From 65,536 blocks on it is put in order first, and
-//! what is there twice is dropped. So it never holds more than that or twice the blocks that there
-//! are, and all orders together take n log n steps in the blocks that were added, in whatever order
-//! they come.
+//! The list of them doubles when it is full. From 65,536 blocks on it is first sorted, and repeated
+//! blocks are dropped. It therefore holds at most that many, or twice the distinct blocks. All
+//! sorting together takes n log n steps in the blocks that were added, in any order.
 
 ghost use Rattle.std.specs.Prelude.{◌≡◌, ◌+◌, ◌/◌, ◌<◌, ◌≤◌, ◌^◌, length, OnOk};
 ghost use Rattle.romfs_held.specs.declared.blocks.TheConstants.{BLOCK_SIZE};

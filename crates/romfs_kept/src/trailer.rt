@@ -11,6 +11,7 @@ ghost use Rattle.romfs_kept.specs.Tails.{IsTail, IsTailEnd, end_of};
 
 use crate::fault::GatherFault;
 use crate::gathering::gather;
+use crate::grain::Grain;
 use crate::window::load;
 use devices::Contents;
 use romfs_format::limits::{HEAD_SIZE, PART_HEAD_SIZE, ROW_SIZE, TRAILER_HEAD_SIZE};
@@ -32,20 +33,21 @@ const PLACES: u64 = 1 << 32;
 
 /// Keeps what [`gather`] keeps of an image, and after it the attribute trailer, if there is one:
 /// all of it; or only its head if it is cut off, or has more rows than there are places for
-/// headers, which breaks it in any case. Of a second part that is cut off only the letters are
+/// headers, which breaks it in any case. Only the letters of a second part that is cut off are
 /// kept.
 ///
-/// The errors are those of `gather`, and `Memory` if a trailer does not end below 2^32, for which
-/// there is no room. It takes at most five more reads, and the trailer's bytes twice while they are
-/// put after the others.
+/// The errors are those of `gather`, and `Memory` if a trailer does not end below 2^32, since there
+/// is no room for it. It takes at most five more reads, and the trailer's bytes twice while they
+/// are put after the others.
 pub fn gather_with_trailer<S: Contents, A: Allocator + Copy>(
     alloc: A,
     source: &S,
+    grain: Grain,
 ) -> Result<Kept<A>, GatherFault>
     ensures ok { IfOk result (IsGatheredWithTrailer (S.source source.now)) }
     ensures err { IfErr result (IsCause (S.source source.now)) }
 {
-    let front = gather(alloc, source)?;
+    let front = gather(alloc, source, grain)?;
     let full = front.held().len() as u32;
     match read_trailer(alloc, source, full)? {
         None => Ok(front),
@@ -144,7 +146,8 @@ fn tail_end<S: Contents, A: Allocator>(
     }
 }
 
-/// The end of this many rows, if they are there, and no more than an image has places for headers.
+/// The end of this many rows, if there are as many bytes, and no more rows than an image has places
+/// for headers.
 fn end_of(rows: u32, room: u64, full: u32) -> Option<u64>
     ensures value { result ≡ end_of rows room full }
     ensures small { IfSome result (λ end. end < 2 ^ 40) }
@@ -185,7 +188,7 @@ fn part_end<S: Contents, A: Allocator>(
     }
 }
 
-/// Reads this many bytes from a place on, in place of others.
+/// Reads this many bytes from a place on, and replaces earlier ones.
 fn read_tail<S: Contents, A: Allocator>(
     source: &S,
     tail: &mut Vec<u8, A>,

@@ -71,7 +71,7 @@ pub fn visit<S: Contents, A: Allocator>(
     keep(source, window, size, at, &long[..count], pieces)
 }
 
-/// Reads as many bytes of a header and its name as a room has, and gives the end of what is kept,
+/// Reads as many bytes of a header and its name as a room has, and returns the end of what is kept,
 /// if the name ends among them.
 fn read_head<S: Contents, A: Allocator>(
     source: &S,
@@ -192,8 +192,8 @@ fn keep_target<S: Contents, A: Allocator>(
     Ok(())
 }
 
-/// How many bytes of a target are kept: all existing ones, unless it is too long; none of a header
-/// that is no symbolic link.
+/// How many bytes of a target are kept: as many as the image has, unless it is too long; none of a
+/// header that is not a symbolic link.
 fn target_len(words: Words, room: usize) -> usize
     ensures link { kind_of (words.first % 8) ≡ SymLink → words.third ≤ MAX_TARGET_SIZE →
         result ≡ min words.third room }

@@ -3,24 +3,28 @@
 //! The last read is a window, whose bytes are not read again. A window is as long as the request,
 //! or 64 bytes. It is twice as long as the one before, up to 64 KiB, if three quarters of that one
 //! were kept: adjacent headers are read many at a time, and little is read of the data between
-//! others.
+//! others. Over a source that reads in blocks a window is extended to whole ones: headers that
+//! share a block are then read, and hashed, with it.
 
 ghost use Rattle.std.specs.Prelude.{◌≡◌, ◌+◌, ◌<◌, ◌≤◌, ◌^◌, ◌++◌, length, take, drop, replicate, IsTrue, OnOk, IfErr};
 ghost use Rattle.romfs_kept.specs.Reads.{AreWithin, IsCause, IsHeld, IsReadAt};
 
 use crate::fault::GatherFault;
+use crate::grain::Grain;
 use devices::{Contents, fill};
 use std::alloc::Allocator;
 
 /// The least bytes of a window.
 const LEAST: usize = 64;
 
-/// The most bytes of a window that is longer than what is asked for.
+/// The most bytes of a window that is longer than the request.
 const MOST: usize = 65_536;
 
 /// Bytes that were read at once.
 #[derive(Drop)]
 pub struct Window<A: Allocator> {
+    /// Where windows begin and end.
+    pub grain: Grain,
     /// Their place.
     pub start: usize,
     pub bytes: Vec<u8, A>,
@@ -30,10 +34,11 @@ pub struct Window<A: Allocator> {
 
 impl<A: Allocator> Window<A> {
     /// A window of no bytes.
-    pub fn new(alloc: A) -> Window<A>
+    pub fn new(alloc: A, grain: Grain) -> Window<A>
         ensures { length result.bytes.items ≡ 0 }
     {
         Window {
+            grain,
             start: 0,
             bytes: Vec::new(alloc),
             used: 0,
@@ -49,8 +54,8 @@ pub fn note_used<A: Allocator>(window: &mut Window<A>, count: usize)
     window.used = window.used.saturating_add(count);
 }
 
-/// Fills a room with the bytes from a place on, of an image of this size, and with zeros behind
-/// its end.
+/// Fills a room with the bytes from a place on, of an image of this size, and with zeros after its
+/// end.
 pub fn read<S: Contents, A: Allocator>(
     source: &S,
     window: &mut Window<A>,
@@ -93,7 +98,7 @@ fn copy_part(bytes: &[u8], from: usize, count: usize, room: &mut [u8])
     room[..count].copy_from_slice(&bytes[from..from + count]);
 }
 
-/// Sees to it that this many bytes from a place on are in the window.
+/// Makes sure that this many bytes from a place on are in the window.
 fn look_at<S: Contents, A: Allocator>(
     source: &S,
     window: &mut Window<A>,
@@ -114,9 +119,10 @@ fn look_at<S: Contents, A: Allocator>(
         return Ok(());
     }
     let wanted = next_len(window.bytes.len(), window.used).max(count);
-    let len = wanted.min(size as usize - from);
-    load(source, &mut window.bytes, from, len)?;
-    window.start = from;
+    let start = window.grain.bound_before(from);
+    let end = window.grain.bound_behind(from + wanted).min(size as usize);
+    load(source, &mut window.bytes, start, end - start)?;
+    window.start = start;
     window.used = 0;
     Ok(())
 }
@@ -141,7 +147,7 @@ fn next_len(len: usize, used: usize) -> usize
     }
 }
 
-/// Reads this many bytes from a place on, in place of others.
+/// Reads this many bytes from a place on, and replaces earlier ones.
 pub fn load<S: Contents, A: Allocator>(
     source: &S,
     bytes: &mut Vec<u8, A>,
@@ -154,7 +160,7 @@ pub fn load<S: Contents, A: Allocator>(
     ensures held { OnOk result (IsHeld (S.source source.now) at bytes.new.items) }
     ensures err { IfErr result (IsCause (S.source source.now)) }
 {
-    // those that exist already are not cleared, since they are read over
+    // bytes already in the window are not cleared, since the read overwrites them
     bytes.resize(count, 0)?;
     load_room(source, &mut bytes[..], at as u64)
 }

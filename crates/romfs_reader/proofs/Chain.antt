@@ -1,5 +1,5 @@
--- The chain of a directory, walked along. Where its headers lie in the image and none comes twice,
--- it ends within as many steps as the image has places for headers (`ends`), since there is no room
+-- The chain of a directory, walked along. If its headers lie in the image and none comes twice, it
+-- ends within as many steps as the image has places for headers (`ends`), since there is no room
 -- for one more (`no_room`); so the walk lists it position by position (`listed`).
 use Rattle.std.proofs.Common.{◌≡◌, ◌≢◌, ◌∙◌, sym, ap, subst, ℕ, zero, suc, ◌+◌, ◌*◌, ◌/◌, ◌<◌, ◌≤◌, ◌==◌, ◌⊎◌, inl, inr, List, [], ◌∷◌, Some, false, arith, refl}
 use Rattle.std.specs.Prelude.{slice_get}
@@ -11,7 +11,7 @@ use Rattle.romfs_reader.specs.Readers.{IsListed}
 use Rattle.romfs_reader.specs.Walks.{chain_from, EndsWithin, places}
 use Rattle.romfs_reader.proofs.Pigeon.{no_room}
 
--- at each position of a chain stands one header
+-- each position of a chain has one header
 pub one_at : (a : List ℕ) (d n h g : ℕ) → IsAt a d n h → IsAt a d n g → h ≡ g
 one_at a d zero h g x y = x.0 ∙ sym y.0
 one_at a d (suc n) h g x y = x.2.1 ∙ ap (next a) (one_at a d n x.0 y.0 x.1 y.1) ∙ sym y.2.1
@@ -48,7 +48,7 @@ pub record IsGood (a : List ℕ) (d : ℕ) : Type 0 where
   pub once : (i j h : ℕ) → IsAt a d i h → IsAt a d j h → i ≡ j
   pub inside : (n h : ℕ) → IsAt a d n h → IsInside a h
 
--- the chain of d begins at h, or is empty where h is 0
+-- the chain of d begins at h, or is empty if h is 0
 pub record IsStart (a : List ℕ) (d h : ℕ) : Type 0 where
   pub some : h ≢ 0 → IsFirst a d h
   pub only : (g : ℕ) → IsFirst a d g → g ≡ h

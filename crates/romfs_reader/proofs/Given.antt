@@ -17,7 +17,7 @@ use Rattle.romfs_reader.proofs.Keeps.{root_directory, reached_inside, reached_na
 use Rattle.romfs_reader.specs.Walks.{places}
 use Rattle.romfs_reader.proofs.Hops.{is_hard, LeavesWithin, leaves, left_already, hops, count}
 
--- the header at h is given: it is the root's, a member, or where the hard links of a member end
+-- the header at h is given: it is the root's, a member, or the end of the hard links of a member
 abbrev pub From : List ℕ → ℕ → Type 0
 From a h = (h ≡ root a) ⊎ IsSomeMember a h ⊎ IsEnd a h
 
@@ -125,8 +125,7 @@ module _ (a : List ℕ) (i : IsImage a) where
     reached = inl refl;
   }
 
-  -- where the kind that was read is a hard link's, the header on the way is a hard link of the
-  -- image
+  -- if the kind that was read is a hard link's, the header on the way is a hard link of the image
   pub hard : (head end : Head) → IsOnWay a head end → end.kind ≡ HardLink → IsHardLink a end.offset
   hard head end w k = (w.inside, sym (ap (λ x. x.kind) w.is) ∙ k)
 
@@ -167,11 +166,11 @@ module _ (a : List ℕ) (i : IsImage a) where
   way_falls head end after w k e = subst (λ x. count a (places a) x.offset < count a (places a) end.offset)
       (sym e) (hops a (places a) end.offset (hard head end w k) w.leaves).1
 
-  -- a header on the way that is no hard link is where the hard links from the first one end
+  -- a header on the way that is not a hard link is where the hard links from the first one end
   pub arrives : (head end : Head) → IsOnWay a head end → end.kind ≢ HardLink → IsFinal a head.offset end.offset
   arrives head end w n = w.on end.offset (stays (λ l. n (ap (λ x. x.kind) w.is ∙ l.1)))
 
-  -- a header on the way that is no hard link is given by the image
+  -- a header on the way that is not a hard link is given by the image
   pub arrived : (head end : Head) → IsGiven a head → IsOnWay a head end → end.kind ≢ HardLink → IsGiven a end
   arrived head end g w n = record {
     is = w.is;

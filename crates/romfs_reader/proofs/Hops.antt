@@ -1,6 +1,6 @@
 -- A chain of hard links that ends at all ends within as many steps as the image has places for
--- headers (`leaves`): in more steps it would come to one header twice. So the steps that a walk has
--- left can be counted, and each step leaves fewer (`hops`).
+-- headers (`leaves`): in more steps it would come to one header twice. The steps that a walk has
+-- left can therefore be counted, and each step leaves fewer (`hops`).
 use Rattle.std.proofs.Common.{◌≡◌, ◌≢◌, ap, subst, ℕ, zero, suc, ◌+◌, ◌-◌, ◌*◌, ◌/◌, ◌<◌, ◌≤◌, ◌⊎◌, inl, inr, List, arith, refl}
 use Rattle.std.proofs.lemmas.Bool.{cases_order}
 use Rattle.romfs_format.specs.declared.head.Kind.{Kind}
@@ -62,7 +62,7 @@ hard_before : (a : List ℕ) (k h : ℕ) → IsOut a (suc k) h → IsHardLink a 
 unfolding IsOut
 hard_before a k h x = x.0
 
--- after the first step, headers stand on places
+-- after the first step, headers are at places
 landed : (a : List ℕ) (i h : ℕ) → h ≡ h / 16 * 16 → hop a i h ≡ hop a i h / 16 * 16
 unfolding hop
 landed a zero h e = e
@@ -139,7 +139,7 @@ leaves a h e n = elim (decided a (places a) h) [
       | inr (inr l) ↦ omega arith
     ]
 
--- one step more on a hard link, else none
+-- one step more on a hard link, otherwise none
 counted : {P : Type 0} → P ⊎ ¬ P → ℕ → ℕ
 counted (inl l) n = suc n
 counted (inr m) n = 0
@@ -178,6 +178,6 @@ pub hops : (a : List ℕ) (n h : ℕ) → IsHardLink a h → LeavesWithin a n h 
     × (count a n (destination a h) < count a n h)
 hops a n h l w = step_down a n w.steps h l w.out w.few
 
--- a header that is no hard link is the end of its chain, within any number of steps
+-- a header that is not a hard link is the end of its chain, within any number of steps
 pub left_already : (a : List ℕ) (n h : ℕ) → ¬ IsHardLink a h → LeavesWithin a n h
 left_already a n h m = record { steps = zero; few = omega arith; out = now a h m }

@@ -1,4 +1,4 @@
--- A loop that lends images one by one: with one more, so many are lent.
+-- A loop that lends images one by one: with one more, this many are lent.
 use Rattle.std.proofs.Common.{◌≡◌, ◌∙◌, sym, ap, ℕ, ◌+◌, ◌<◌, List, [], ◌∷◌, ◌++◌, length, take, get_or}
 use Rattle.std.proofs.lemmas.List.{map_more}
 use Rattle.romfs_reader.specs.Images.{HeldBytes, bytes_of}

@@ -13,7 +13,7 @@ some_text : (o : Option (List ℕ)) → length (unwrap_or o []) ≢ 0 → IsSome
 some_text None n = absurd (n refl)
 some_text (Some text) n = refl
 
--- where the name that was read has bytes, the header's name is ended
+-- if the name that was read has bytes, the header's name is ended
 pub some_name : (a : List ℕ) (h : ℕ) → length (name_of a h) ≢ 0 → IsSome (name a h)
 some_name a h = some_text (name a h)
 
@@ -21,7 +21,7 @@ dotted_text : (o : Option (List ℕ)) → is_dot_name (unwrap_or o []) ≡ optio
 dotted_text None = refl
 dotted_text (Some text) = refl
 
--- the name that was read is `.` or `..` exactly where the header has such a name
+-- the name that was read is `.` or `..` exactly if the header has such a name
 pub dotted : (a : List ℕ) (h : ℕ) → is_dot_name (name_of a h) ≡ option_map_or is_dot_name (name a h) false
 dotted a h = dotted_text (name a h)
 

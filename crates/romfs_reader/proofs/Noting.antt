@@ -18,7 +18,7 @@ use Rattle.romfs_reader.specs.Readers.{IsGiven}
 use Rattle.romfs_reader.specs.Ends.{AreEnds}
 use Rattle.romfs_reader.proofs.Given.{From, from_inside, hard, hard_member, IsOnWay}
 
--- the end of a hard link is that of where it leads
+-- the end of a hard link is that of the header that it leads to
 end_after : (a : List ℕ) {h e : ℕ} → IsHardLink a h → IsFinal a h e → IsFinal a (destination a h) e
 end_after a l (stays n) = absurd (n l)
 end_after a l (follows m f) = f
@@ -32,7 +32,7 @@ pub record IsNoting (a : List ℕ) (head at : Head) (e : ℕ) (ends : BTreeMap �
 tie : (j k : ℕ) → is_eq (nat_cmp j k) ≡ nat_eq j k
 tie j k = grind (arith, nat_tests)
 
--- what is known stays true where one more header is noted with its end
+-- what is known stays true if one more header is noted with its end
 pub one_more : (a : List ℕ) (ends ends' : BTreeMap ℕ ℕ) (h e : ℕ) → AreEnds a ends → IsFinal a h e
     → ((q : ℕ) → get nat_cmp ends' q ≡ cond (is_eq (nat_cmp h q)) (Some e) (get nat_cmp ends q))
     → AreEnds a ends'

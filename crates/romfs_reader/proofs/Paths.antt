@@ -119,7 +119,7 @@ module _ (a : List ℕ) (i : IsImage a) where
 -- what holds of the paths of a sound image
 pub ruleset path_laws = (one_header, short, all_paths)
 
--- names from a directory lead to that directory, where there are none, or to a member
+-- names from a directory lead to that directory, if there are none, or to a member
 pub leads_to : (a : List ℕ) (path : List (List ℕ)) (d h : ℕ) → Leads a d path h → (d ≡ h) ⊎ IsSomeMember a h
 leads_to a [] d h l = inl l
 leads_to a (n ∷ path) d h (c, m, f, l) =

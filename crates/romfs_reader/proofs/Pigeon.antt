@@ -1,5 +1,5 @@
--- n + 1 numbers below n are not all different (`no_room`): where they were, the last one could take
--- the place of the greatest (`swapped`), and would leave n different numbers below n - 1.
+-- n + 1 numbers below n are not all different (`no_room`): if they were, the last one could replace
+-- the greatest (`swapped`), which would leave n different numbers below n - 1.
 use Rattle.std.proofs.Common.{◌≡◌, ◌≢◌, ℕ, zero, suc, ◌<◌, ◌≤◌, ◌⊎◌, inl, inr, cond, ◌==◌, arith}
 use Rattle.std.proofs.lemmas.Bool.{cases_order}
 use Rattle.std.proofs.lemmas.Bool.Decides.{nat_tests}

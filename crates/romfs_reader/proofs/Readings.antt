@@ -49,7 +49,7 @@ given_place a i r h m g y e =
     found None m q p = absurd (m p)
     found (Some x) m q p = ap Some (m.1 ∙ sym q)
 
--- a name is the bytes behind its header, as many as it has
+-- a name is the bytes after its header, as many as it has
 pub name_bytes : (a : List ℕ) (h : ℕ) → bytes_at a (h + 16) (length (name_of a h)) ≡ name_of a h
 unfolding bytes_at
 name_bytes a h = name_taken a h
@@ -94,7 +94,7 @@ has_data : (k : Kind) → (k ≡ Regular) ⊎ (k ≡ SymLink) → (a : List ℕ)
 has_data k (inl e) a h = rw e refl
 has_data k (inr e) a h = rw e refl
 
--- the data of a regular file or symbolic link lie in the image, behind the padded name
+-- the data of a regular file or symbolic link lie in the image, after the padded name
 pub given_data : (a : List ℕ) (i : IsImage a) (head : Head) → IsGiven a head
     → (head.kind ≡ Regular) ⊎ (head.kind ≡ SymLink)
     → (head.name_at + padded (head.name_len + 1) + head.size ≤ length a)
@@ -108,7 +108,7 @@ given_data a i head g k =
       subst (λ x. bytes_at a (x.name_at + padded (x.name_len + 1)) x.size ≡ data_of_header a head.offset) e (sym m),
     )
 
--- the data of a header that has any begin behind its name, which is ended
+-- the data of a header that has any begin after its name, which is ended
 pub given_start : (a : List ℕ) (i : IsImage a) (head : Head) → IsGiven a head
     → (head.kind ≡ Regular) ⊎ (head.kind ≡ SymLink)
     → head.name_at + padded (head.name_len + 1) ≡ data_start_of a head.offset

@@ -1,5 +1,5 @@
--- The data of a header are a part of its image, shorter than that by the headers before them. So a
--- reply can say their length (`short_data`), and the part where they lie stands for them:
+-- The data of a header are a part of its image, shorter than that by the headers before them. A
+-- reply can therefore say their length (`short_data`), and the part where they lie represents them:
 -- `part_of_data` for files and symbolic links, `part_of_none` for all others.
 use Rattle.std.proofs.Common.{◌≡◌, ◌≢◌, ◌∙◌, sym, ap, subst, ℕ, ◌+◌, ◌<◌, ◌≤◌, ◌^◌, ◌⊎◌, inl, inr, List, [], ◌∷◌, length, drop, refl, arith, lit≤}
 use Rattle.std.proofs.lemmas.List.{length-take, length-drop}
@@ -61,7 +61,7 @@ module _ (a : List ℕ) (image : IsImage a) (head : Head) (given : IsGiven a hea
   size_same : (n : ℕ) → n ≡ data_size head.kind head.size → n ≡ data_size (kind a head.offset) (size a head.offset)
   size_same n e = subst (λ (x : Head). n ≡ data_size x.kind x.size) given.is e
 
-  -- the bytes behind the padded name, as many as the size, are the part of a file or symbolic link
+  -- the bytes after the padded name, as many as the size, are the part of a file or symbolic link
   pub part_of_data : (head.kind ≡ Regular) ⊎ (head.kind ≡ SymLink)
       → IsDataPart a head.offset (record {
         start = head.name_at + padded (head.name_len + 1);

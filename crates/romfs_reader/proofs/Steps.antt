@@ -1,4 +1,4 @@
--- A step along a chain: what becomes of the members that are left. At a header that is passed over
+-- A step along a chain: what happens to the members that are left. At a header that is passed over
 -- they stay the same (`goes`), at any other they are that one and the rest (`takes`), and each step
 -- leaves a shorter chain (`falls`). These three speak of headers as read.
 use Rattle.std.proofs.Common.{◌≡◌, ◌≢◌, sym, ap, subst, ℕ, zero, suc, ◌<◌, inl, inr, List, [], ◌∷◌, length, true, false, arith, refl}
@@ -9,7 +9,7 @@ use Rattle.romfs_reader.specs.Readers.{passes_over, kept}
 use Rattle.romfs_reader.specs.Walks.{chain_from, EndsWithin, places, members_from, IsWalk}
 use Rattle.romfs_reader.proofs.Chain.{other}
 
--- more steps do no harm
+-- a chain that ends within n headers also ends within n + 1
 wider : (a : List ℕ) (n h : ℕ) → EndsWithin a n h → EndsWithin a (suc n) h
 wider a zero h e = inl e
 wider a (suc n) h (inl e) = inl e
@@ -36,7 +36,7 @@ step a (suc n) h z (inr x) = record {
 }
 
 module _ (a : List ℕ) (r d h : ℕ) (w : IsWalk a r h) where
-  -- where the chain is over, no members are left
+  -- if the chain is over, no members are left
   pub at_end : h ≡ 0 → members_from a d h ≡ []
   at_end z = rw z (none (places a))
     where
@@ -44,7 +44,7 @@ module _ (a : List ℕ) (r d h : ℕ) (w : IsWalk a r h) where
       none zero = refl
       none (suc n) = refl
 
-  -- where the chain is not over, its header lies in the image, and the walk can go on at the next
+  -- if the chain is not over, its header lies in the image, and the walk can go on at the next
   pub on : h ≢ 0 → IsInside a h × IsWalk a r (next a h)
   on z = let s = step a (places a) h z w.ends in (s.inside, record { small = w.small; root = w.root; ends = s.ends })
 

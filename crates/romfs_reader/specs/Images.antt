@@ -1,4 +1,4 @@
--- What the accessible bytes of a sound image are known to be.
+-- What is known about the accessible bytes of a sound image.
 use Rattle.std.specs.Prelude.{◌≡◌, ℕ, ◌<◌, ◌^◌, Bool, List, length, map}
 use Rattle.std.specs.List.{list_all}
 use Rattle.romfs_format.specs.declared.rule.Profile.TheVariants.{Usual}
@@ -21,6 +21,6 @@ pub record HeldBytes : Type 0 where
 abbrev pub bytes_of : List HeldBytes → List (List ℕ)
 bytes_of images = map (λ (image : HeldBytes). image.bytes) images
 
--- all images are held whole
+-- all images are held in full
 abbrev pub all_whole : List HeldBytes → Bool
 all_whole images = list_all (λ (image : HeldBytes). image.whole) images

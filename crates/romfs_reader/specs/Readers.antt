@@ -43,7 +43,7 @@ data_of_kind _ a h = []
 abbrev pub data_of_header : List ℕ → ℕ → List ℕ
 data_of_header a h = data_of_kind (kind a h) a h
 
--- how many data a header with this size has
+-- how many bytes of data a header with this size has
 abbrev pub data_size : Kind → ℕ → ℕ
 data_size Regular n = n
 data_size SymLink n = n

@@ -5,7 +5,8 @@
 //! search stops at the first noted one. A link that leads to the end itself is noted only if a
 //! search reached it from another link.
 //!
-//! All searches of an image together take n log n steps in the headers asked for and passed.
+//! All searches of an image together take n log n steps in the headers that they start from and
+//! pass.
 
 ghost use Rattle.std.specs.Prelude.{◌≡◌, IfOk};
 ghost use Rattle.romfs_format.specs.Links.{IsFinal};
@@ -21,7 +22,7 @@ use std::alloc::{AllocError, Allocator};
 use std::collections::BTreeMap;
 use std::marker::Model;
 
-/// The ends of hard links of an image that were asked for, kept. A clause sees the image's bytes.
+/// The ends of an image's hard links that were found so far. A clause sees the image's bytes.
 #[derive(Drop)]
 pub struct Ends<'a, A: Allocator> {
     image: Held<'a>,

@@ -20,13 +20,13 @@ use romfs_held::read::{root_of, word};
 use std::alloc::Allocator;
 use std::marker::Model;
 
-/// An image that keeps every rule, held whole, or what is kept of one that stays in its file. A
+/// An image that keeps every rule, held in full, or what is kept of one that stays in its file. A
 /// clause sees its accessible bytes, with zeros where nothing is kept, and whether all are held.
 ///
-/// It lends an [`ImageView`], which has all readers. Of these it has once more `full`, `root`,
-/// `head`, `members`, `target` and `name`, and alone it gives data, of an image that is held whole.
-/// `members`, `target`, `name` and `body` ask for a header that this image gave, by `root`,
-/// `members` or `target`; by `head` a caller comes back to such a header from its offset. No reader
+/// It lends an [`ImageView`], which has all readers. It repeats `full`, `root`, `head`, `members`,
+/// `target` and `name` of these, and it alone returns data by a header, if the image is held in
+/// full. `members`, `target`, `name` and `body` need a header that this image gave, by `root`,
+/// `members` or `target`. With `head` a caller gets such a header again from its offset. No reader
 /// takes memory.
 #[derive(Drop)]
 pub struct Image<A: Allocator> {
@@ -66,9 +66,9 @@ fn accessible<A: Allocator>(held: HeldImage<A>) -> HeldImage<A>
 }
 
 impl<A: Allocator> Image<A> {
-    /// The image of what is held of bytes that break no rule. Of these it keeps the accessible
-    /// ones: as many as the full size says (romfs.rst, the volume header). Bytes after them are not
-    /// looked at.
+    /// The image with what is held of bytes that break no rule. It keeps the accessible ones: as
+    /// many as the full size says (romfs.rst, the volume header). Bytes after them are not looked
+    /// at.
     pub fn of_sound(held: HeldImage<A>) -> Self
         requires { IsSound Usual (held_bytes held) }
         ensures bytes { result.bytes ≡ image (held_bytes held) }
@@ -107,7 +107,7 @@ impl<A: Allocator> Image<A> {
     /// The header at an offset in bytes; none if the offset is no multiple of 16, the header is not
     /// inside the image, or its name has no end.
     ///
-    /// At the offset of a header that this image gave it is that header, and none only for a root
+    /// At the offset of a header that this image gave, it returns that header; none only for a root
     /// whose name has no end.
     pub fn head(&self, offset: u32) -> Option<Head>
         ensures value { IsHeadAt self.now.bytes offset result }
@@ -153,8 +153,8 @@ impl<A: Allocator> Image<A> {
     }
 
     /// The data of a regular file, or the target of a symbolic link: as many bytes as its size,
-    /// from the padded end of its name on. It is empty for headers of other kinds. It asks for an
-    /// image that is held whole, as one is that was checked by its bytes.
+    /// from the padded end of its name on. It is empty for headers of other kinds. The image must
+    /// be held in full, as one that was checked from its bytes is.
     #[tactic(auto, using(crate::proofs::Short::short_data))]
     pub fn body(&self, head: &Head) -> &[u8]
         requires given { IsGiven self.now.bytes head.now }
@@ -165,7 +165,7 @@ impl<A: Allocator> Image<A> {
         data_in(self.held.bytes(), head)
     }
 
-    /// The bytes of a part, of an image that is held whole.
+    /// The bytes of a part. The image must be held in full.
     pub fn part(&self, part: Part) -> &[u8]
         requires part { IsPart self.now.bytes part }
         requires whole { self.now.whole ≡ true }

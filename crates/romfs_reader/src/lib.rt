@@ -1,14 +1,14 @@
-//! What is read from romfs images that keep all rules. Whether bytes do, `romfs_image` says.
+//! What is read from romfs images that keep all rules. `romfs_image` checks whether bytes do.
 //!
 //! [`Image`] owns an image: all its bytes, or what is kept of one that stays in its file. It lends
-//! an [`ImageView`], which gives headers, and for these the members of a directory, where hard
-//! links end, names, and where data lie. Data are given of an image that is held whole. [`Ends`]
-//! finds where many hard links end, and passes none of them twice; but for it and [`views_of`], a
-//! list of images that are lent, no reader takes memory. What the calls promise is said by the
-//! definitions of `romfs_format`, and in `specs/`:
-//! what the readers give (`Readers`, step by step `Walks`, and `Ends`), and what is known of a
-//! sound image (`Images`). [`laws`] says that each path of such an image has one header and at most
-//! 512 names, and that there are finitely many.
+//! an [`ImageView`], which returns headers, and for these the members of a directory, the ends of
+//! hard links, names, and the places of data. Data are returned if the image is held in full.
+//! [`Ends`] finds where many hard links end, and passes none of them twice. Of all readers only it
+//! and [`views_of`], which makes a list of lent images, take memory. The definitions of
+//! `romfs_format` and of `specs/` say what the calls promise: what the readers return (`Readers`,
+//! step by step `Walks`, and `Ends`), and what is known of a sound image (`Images`). [`laws`] says
+//! that each path of such an image has one header and at most 512 names, and that there are
+//! finitely many.
 #![tactic(auto)]
 
 pub mod ends;

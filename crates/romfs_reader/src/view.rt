@@ -20,12 +20,12 @@ use romfs_held::{Held, NamedHead};
 use std::alloc::{AllocError, Allocator};
 use std::marker::Model;
 
-/// A sound image that is lent: an [`Image`](crate::Image), of which a clause sees the accessible
-/// bytes, with zeros where nothing is kept; that is where files have their data.
+/// A lent sound image: an [`Image`](crate::Image), of which a clause sees the accessible bytes,
+/// with zeros where nothing is kept, as where files have their data.
 ///
-/// `members`, `target`, `name` and `data_part` ask for a header that this image gave, by `root`,
-/// `members` or `target`; by `head` a caller comes back to such a header from its offset. No reader
-/// gives data of a file, and none but `ends` takes memory.
+/// `members`, `target`, `name` and `data_part` need a header that this image gave, by `root`,
+/// `members` or `target`. With `head` a caller gets such a header again from its offset.
+/// `data_part` returns the place of a file's data, not the data. No reader but `ends` takes memory.
 #[derive(Drop)]
 pub struct ImageView<'a> {
     image: Held<'a>,
@@ -76,7 +76,7 @@ impl<'a> ImageView<'a> {
     /// The header at an offset in bytes; none if the offset is no multiple of 16, the header is not
     /// inside the image, or its name has no end.
     ///
-    /// At the offset of a header that this image gave it is that header, and none only for a root
+    /// At the offset of a header that this image gave, it returns that header; none only for a root
     /// whose name has no end.
     pub fn head(&self, offset: u32) -> Option<Head>
         ensures value { IsHeadAt self.now offset result }
@@ -86,7 +86,7 @@ impl<'a> ImageView<'a> {
         place_at(&self.image, self.root, offset)
     }
 
-    /// The header at an offset in bytes at which this image gave one before, that header again.
+    /// A header that this image gave before, again, by its offset in bytes.
     pub fn given(&self, offset: u32) -> Head
         requires { IsGiven self.now (head_of self.now offset) }
         ensures value { result ≡ head_of self.now offset }
@@ -106,8 +106,7 @@ impl<'a> ImageView<'a> {
         named_head(&self.image, offset, name_len)
     }
 
-    /// The byte at an offset in bytes; none beyond the image. It is for whoever reads ahead what
-    /// will be asked for later.
+    /// The byte at an offset in bytes; none beyond the image. It is for callers that read ahead.
     pub fn glance(&self, offset: u32) -> Option<u8>
         ensures { result ≡ slice_get self.now offset }
     {
@@ -158,8 +157,8 @@ impl<'a> ImageView<'a> {
         name_in(&self.image, head)
     }
 
-    /// The name of the header at an offset at which this image gave one before, by its length in
-    /// bytes, so its end is not searched.
+    /// The name of a header that this image gave before, by its offset and the length of its name
+    /// in bytes, so its end is not searched.
     pub fn given_name(&self, offset: u32, name_len: u32) -> &'a [u8]
         requires head { IsGiven self.now (head_of self.now offset) }
         requires name { name_len ≡ length (name_of self.now offset) }
@@ -177,7 +176,7 @@ impl<'a> ImageView<'a> {
     }
 
     /// The place of the data of a regular file or of a symbolic link's target: a part of no bytes
-    /// for other kinds. A caller that keeps it finds the data and reads no header again.
+    /// for other kinds. A caller that keeps it finds the data without reading the header again.
     pub fn data_part(&self, head: &Head) -> Part
         requires { IsGiven self.now head.now }
         ensures { IsDataPart self.now head.now.offset result }
@@ -185,8 +184,8 @@ impl<'a> ImageView<'a> {
         data_part(&self.image, head)
     }
 
-    /// The same for the header at an offset at which this image gave one before, from its kind, the
-    /// length of its name and the size of its data in bytes; it is not read again.
+    /// The same for a header that this image gave before, by its offset, its kind, the length of
+    /// its name and the size of its data in bytes; it is not read again.
     pub fn given_part(&self, offset: u32, kind: Kind, name_len: u32, size: u32) -> Part
         requires head { IsGiven self.now (head_of self.now offset) }
         requires kind { kind ≡ kind_in self.now offset }
@@ -197,7 +196,7 @@ impl<'a> ImageView<'a> {
         said_part(&self.image, offset, kind, name_len, size)
     }
 
-    /// The bytes of a part that lies in the image; none of an image that stays in its file.
+    /// The bytes of a part that lies in the image; none if the image stays in its file.
     pub fn part(&self, part: Part) -> Option<&'a [u8]>
         requires { IsPart self.now part }
         ensures { IfSome result (λ bytes. bytes.now ≡ bytes_at self.now part.start part.len) }

@@ -1,6 +1,6 @@
 -- Names that rise are found by binary search: what comes before a name that is less is less (less_before),
--- and what comes after one that is greater is greater (greater_after); and what is another name decides
--- nothing, at the front of a run (skip) as at its end (chop).
+-- and what comes after one that is greater is greater (greater_after); and another name decides nothing,
+-- at the front of a run (skip) as at its end (chop).
 use Rattle.std.proofs.Common.{◌≡◌, ◌∙◌, sym, ap, ℕ, zero, suc, ◌+◌, ◌-◌, ◌*◌, ◌<◌, ◌≤◌, inl, inr, List, [], ◌∷◌, length, refl, arith}
 use Rattle.std.specs.Prelude.{Bool, true, false, Option, Some, None, bytes_eq}
 use Rattle.std.specs.declared.cmp.Ordering.{Ordering}
@@ -34,7 +34,7 @@ greater_differs a b e = sym (is_eq-slice_cmp a b) ∙ ap is_eq e
 pub equal_same : (a b : List ℕ) → cmp a b ≡ Equal → bytes_eq a b ≡ true
 equal_same a b e = sym (is_eq-slice_cmp a b) ∙ ap is_eq e
 
--- the value where the first attribute has another name, and where it has this one
+-- the value if the first attribute has another name, and if it has this one
 value_behind : (n : List ℕ) (x : Extended) (xs : List Extended) → bytes_eq x.name n ≡ false → value_of n (x ∷ xs) ≡ value_of n xs
 value_behind n x xs e = rw e refl
 
@@ -69,7 +69,7 @@ module _ (y : List ℕ) (n : List ℕ) where
       let s = skip_by end (j - i) i (omega arith) (rw e h) in
       rw e at s
 
-  -- where all are other names there is no value
+  -- if all are other names there is no value
   pub none : (end i : ℕ) → i ≤ end → Differ i end → value_of n (run y end i) ≡ None
   none end i l h = skip end i end l (omega arith) h ∙ ap (value_of n) (run_ends y end end (omega arith))
 
@@ -88,7 +88,7 @@ module _ (y : List ℕ) (n : List ℕ) where
   pub chop : (end high i : ℕ) → i ≤ high → high ≤ end → Differ high end → value_of n (run y end i) ≡ value_of n (run y high i)
   chop end high i l m h = chop_by end high (high - i) i (omega arith) m h
 
-  -- the value where the first of a run has this name
+  -- the value if the first of a run has this name
   pub first_found : (end i : ℕ) → i < end → cmp (piece y (2 * i)) n ≡ Equal → value_of n (run y end i) ≡ Some (piece y (2 * i + 1))
   first_found end i l e =
       ap (value_of n) (run_step y end i l)
@@ -129,7 +129,7 @@ module _ (y : List ℕ) (first end : ℕ) (rise : names_rise (run y end first) �
       rw e at p
 
   module _ (n : List ℕ) (middle : ℕ) (low : first ≤ middle) (high : middle < end) where
-    -- where a name comes before the one sought, so do those before it
+    -- if a name comes before the one sought, so do those before it
     pub less_before : cmp (piece y (2 * middle)) n ≡ Less → Differ y n first (middle + 1)
     less_before e = record {
       each = λ k l m. elim (cases_order k middle) [
@@ -140,7 +140,7 @@ module _ (y : List ℕ) (first end : ℕ) (rise : names_rise (run y end first) �
       ];
     }
 
-    -- where a name comes after the one sought, so do those after it
+    -- if a name comes after the one sought, so do those after it
     pub greater_after : cmp (piece y (2 * middle)) n ≡ Greater → Differ y n middle end
     greater_after e = record {
       each = λ k l m. elim (cases_order k middle) [
@@ -155,7 +155,7 @@ module _ (y : List ℕ) (first end : ℕ) (rise : names_rise (run y end first) �
       ];
     }
 
-    -- where a name is the one sought, those before it are others
+    -- if a name is the one sought, those before it are others
     pub equal_before : cmp (piece y (2 * middle)) n ≡ Equal → Differ y n first middle
     equal_before e = record {
       each = λ k l m. less_differs (piece y (2 * k)) n (

@@ -1,5 +1,5 @@
--- The first rows of a trailer as a list: how many they are (first_length), which stands where
--- (first_get), and that they are in order where they are right and few (ordered).
+-- The first rows of a trailer as a list: how many there are (first_length), which one is at a
+-- position (first_get), and that they are in order if they are right and few (ordered).
 use Rattle.std.proofs.Common.{◌≡◌, ◌∙◌, ℕ, zero, suc, ◌^◌, ◌<◌, ◌≤◌, inl, inr, List, [], ◌∷◌, length, get_or, arith, refl}
 use Rattle.std.proofs.lemmas.Bool.{cases_order}
 use Rattle.std.proofs.lemmas.List.{length-append, get_or_append_left, get_or_push}
@@ -32,7 +32,7 @@ module _ (full : ℕ) (t : List ℕ) (n : ℕ) (are : AreRows full t n) (few : l
         | inr (inr o) ↦ absurd (omega arith)
       ])
 
-  -- the first rows of a trailer are in order, where they are right and few
+  -- the first rows of a trailer are in order, if they are right and few
   pub ordered : AreOrdered (first_rows t n)
   ordered = record {
     rising = rising;

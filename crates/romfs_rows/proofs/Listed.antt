@@ -1,5 +1,6 @@
 -- The lists of rows as they are kept: the numbers of rows lead to what the definitions say (kept_told), or no row has a list (bare_told),
--- and each number is that of a list (numbers_small). What that says of an image whose trailer is right (bare_lists, kept_lists, are_kept).
+-- and each number is that of a list (numbers_small). What that says about an image whose trailer is right (bare_lists, kept_lists,
+-- are_kept).
 use Rattle.std.proofs.Common.{◌≡◌, ◌∙◌, sym, ap, subst, ℕ, zero, suc, ◌<◌, ◌≤◌, inl, inr, List, [], ◌∷◌, ◌++◌, length, map, drop, get_or, arith, refl, Bool, true, false, cond, All}
 use Rattle.std.specs.Prelude.{nat_eq, codes, replicate}
 use Rattle.std.specs.List.{starts_with}
@@ -35,7 +36,7 @@ numbers_small n mode x p i d l =
     let e = at_below n (leads n mode x) i m p.rows in
     rw (numbers_get x n i d m) (leb-true _ _ (and_parts _ _ e).0)
 
--- where a trailer has a second part, the numbers of rows lead to their lists
+-- if a trailer has a second part, the numbers of rows lead to their lists
 module _ (t : List ℕ) (has : has_part t ≡ true) where
   one_told : (n : ℕ) → extended_of t n ≡ numbered (lists_in (row_count t) (part t)) (list_number (part t) n)
   one_told n = rw has refl
@@ -59,7 +60,7 @@ more : (n : ℕ) → replicate n none ++ none ∷ [] ≡ replicate (suc n) none
 more zero = refl
 more (suc n) = ap (λ xs. none ∷ xs) (more n)
 
--- where it has none, no row has a list
+-- if it has none, no row has a list
 pub bare_told : (t : List ℕ) → has_part t ≡ false → (n : ℕ) → lists_told [] [] n ≡ first_lists t n
 bare_told t has zero = refl
 bare_told t has (suc n) =

@@ -1,5 +1,5 @@
 -- The list with a number above 0, as a run of attributes (numbered_run): how many it has (list_long),
--- and which stands where (name_there).
+-- and which one is at a position (name_there).
 use Rattle.std.proofs.Common.{◌≡◌, ◌∙◌, ap, subst, ℕ, zero, suc, ◌+◌, ◌-◌, ◌*◌, ◌<◌, ◌≤◌, List, [], ◌∷◌, length, Option, Some, None, refl, arith}
 use Rattle.std.specs.Prelude.{slice_get}
 use Rattle.romfs_format.specs.Extended.{Extended}

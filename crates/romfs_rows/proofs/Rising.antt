@@ -1,6 +1,6 @@
--- How rows are gone over: the first n are right and rise, and the next may have no offset below
--- `least` (AreSoFar). A row that is right and stands there keeps it so (more); with any other the
--- rows are not right (fallen, wrong).
+-- A pass over rows: the first n are right and rise, and the next may have no offset below `least`
+-- (AreSoFar). A right row with such an offset keeps it so (more); with any other the rows are not
+-- right (fallen, wrong).
 use Rattle.std.proofs.Common.{◌≡◌, ℕ, ◌+◌, ◌<◌, ◌≤◌, inl, inr, List, arith, refl}
 use Rattle.std.proofs.lemmas.Bool.{cases_order}
 use Rattle.romfs_format.specs.Trailer.{row_of, IsRow, AreRows}

@@ -1,5 +1,5 @@
 -- A run of attributes, from i up to an end, as one attribute and the run after it (run_step): what that
--- says of the tests of a list, where the attribute passes (.._step) or fails (.._fails).
+-- says about the tests of a list, if the attribute passes (.._step) or fails (.._fails).
 use Rattle.std.proofs.Common.{◌≡◌, ◌∙◌, sym, ap, ℕ, zero, suc, ◌+◌, ◌-◌, ◌*◌, ◌<◌, ◌≤◌, List, [], ◌∷◌, ◌++◌, length, refl, arith, add-one}
 use Rattle.std.proofs.Common.{inl, inr}
 use Rattle.std.specs.Prelude.{true, false, ◌&&◌, nat_le}

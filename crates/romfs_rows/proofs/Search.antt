@@ -1,5 +1,5 @@
--- Where the row of an offset stands: nowhere where no row has it (nowhere), and else at the first
--- that has it (here). So the first row that is not below the offset tells, among rows that rise
+-- Where the row of an offset is: nowhere if no row has it (nowhere), otherwise at the first that
+-- has it (here). The first row that is not below the offset therefore decides, among rows that rise
 -- (found, another, past). The row for an offset is the one at its position (row_at_position).
 use Rattle.std.proofs.Common.{◌-◌, ◌≡◌, ◌≢◌, ◌∙◌, sym, ap, ℕ, ◌<◌, ◌≤◌, inl, inr, true, false, ltb, Bool, ◌==◌, List, [], ◌∷◌, length, get_or, cond, Some, None, arith, refl}
 use Rattle.std.specs.Prelude.{find, slice_get}
@@ -24,7 +24,7 @@ nothing : AttributeRow
 nothing = record { place = 0; mode = 0; uid = 0; gid = 0; seconds = 0; nanoseconds = 0 }
 
 module _ (xs : List AttributeRow) (p : ℕ) where
-  -- where no row has the offset it stands nowhere
+  -- if no row has the offset, it has no position
   pub nowhere : ((k : ℕ) (d : AttributeRow) → k < length xs → (get_or xs k d).place ≢ p) → None ≡ position_at xs p
   nowhere h =
       let e : position_or_len (is_for p) xs ≡ length xs =
@@ -56,11 +56,11 @@ module _ (xs : List AttributeRow) (p i : ℕ) (rising : IsNonDecreasingBy (λ x.
   below : (k : ℕ) (d : AttributeRow) → k < i → (get_or xs k d).place ≢ p
   below k d l e = let b = ltb-true _ _ (split.0 k d (omega arith) l) in omega arith
 
-  -- the row there is it, where it has the offset
+  -- the row there is the one, if it has the offset
   pub found : (x : AttributeRow) → i < length xs → ((d : AttributeRow) → x ≡ get_or xs i d) → x.place ≡ p → Some i ≡ position_at xs p
   found x l at e = here xs p i x l below (ap (λ (y : AttributeRow). y.place) (sym (at x)) ∙ e)
 
-  -- where it has another there is none
+  -- if it has another there is none
   pub another : (x : AttributeRow) → i < length xs → ((d : AttributeRow) → x ≡ get_or xs i d) → x.place ≢ p → None ≡ position_at xs p
   another x l at n = nowhere xs p none
     where
@@ -74,11 +74,11 @@ module _ (xs : List AttributeRow) (p i : ℕ) (rising : IsNonDecreasingBy (λ x.
             n (omega arith))
       ]
 
-  -- and where all rows are below
+  -- nor is there one if all rows are below
   pub past : length xs ≤ i → None ≡ position_at xs p
   past l = nowhere xs p (λ k d m. below k d (omega arith))
 
--- where the one before is below the offset, a row that has it is the first that has it
+-- if the one before is below the offset, a row that has it is the first that has it
 pub first : (xs : List AttributeRow) (p i : ℕ) (d : AttributeRow) → IsNonDecreasingBy (λ x. x.place) xs → i < length xs
     → (0 < i → (get_or xs (i - 1) d).place < p) → (get_or xs i d).place ≡ p → Some i ≡ position_at xs p
 first xs p i d rising l below e = here xs p i d l before e

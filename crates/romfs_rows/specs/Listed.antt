@@ -3,7 +3,8 @@ use Rattle.std.specs.Prelude.{◌≡◌, ℕ, zero, suc, ◌<◌, ◌≤◌, Lis
 use Rattle.romfs_format.specs.Extended.{Extended, is_list}
 use Rattle.romfs_format.specs.Part.{list_count, list_number, numbered, AreTables, AreLists}
 
--- those of each row, by the bytes of the lists and the numbers of rows, and none of the rows behind
+-- the list of each row: the list with its number, among those of the bytes, and none for the rows
+-- without a number, which come last
 abbrev pub lists_told : List ℕ → List ℕ → ℕ → List (List Extended)
 lists_told bytes numbers bare = map (numbered bytes) numbers ++ replicate bare []
 

@@ -61,7 +61,7 @@ fn is_entry(value: &[u8], number: usize) -> bool
         && follows(value, number)
 }
 
-// Whether an entry with this tag may name this one.
+// Whether an entry with this tag may name this id.
 fn names_rightly(tag: u32, id: u32) -> bool
     ensures { result ≡ (if names_one tag then nat_lt id UNDEFINED_ID
         else names_nobody tag && (id == UNDEFINED_ID)) }
@@ -81,7 +81,7 @@ fn follows(value: &[u8], number: usize) -> bool
     number == 0 || key_at(value, number - 1) < key_at(value, number)
 }
 
-// Whether those have an entry who must have one.
+// Whether each that must have an entry has one.
 fn has_tags(value: &[u8]) -> bool
     ensures { result ≡ has_tags value.now }
 {
@@ -112,7 +112,7 @@ fn bits_of(value: &[u8], tag: u32) -> Option<u32>
     found
 }
 
-// What orders an entry among all.
+// The key that orders an entry among all.
 fn key_at(value: &[u8], number: usize) -> u64
     requires { 8 * number + 12 ≤ length value.now }
     ensures { result ≡ acl_key value.now number }
@@ -138,7 +138,7 @@ fn bits_at(value: &[u8], number: usize) -> u32
     short_at(value, 8 * number + 6)
 }
 
-// Whom it names.
+// The user or group that it names.
 fn id_at(value: &[u8], number: usize) -> u32
     requires { 8 * number + 12 ≤ length value.now }
     ensures { result ≡ acl_id value.now number }

@@ -16,7 +16,7 @@ use std::alloc::{AllocError, Allocator};
 /// The fault of an image's attribute trailer, from all bytes of the image; none if it has no
 /// trailer, or one that keeps its rule.
 ///
-/// It goes over the rows twice, and a few times over a second part, whose lists it copies into
+/// It passes over the rows twice, and a few times over a second part, whose lists it copies into
 /// memory meanwhile. Fails only if that memory was refused.
 #[tactic(auto, unfolding(romfs_format::specs::Trailer::trailer))]
 pub fn trailer_fault<A: Allocator>(

@@ -51,8 +51,7 @@ impl<'t> FileXattrs<'t> {
         })
     }
 
-    /// The value of the attribute with a name. It takes as many steps as the list's length can be
-    /// halved.
+    /// The value of the attribute with a name, by binary search.
     pub fn value(&self, name: &[u8]) -> Option<&'t [u8]>
         ensures value { option_map (λ value. value.now) result ≡ value_of name.now self.now }
         ensures short { IfSome result (λ value. length value.now ≤ MAX_XATTR_SIZE) }
@@ -69,7 +68,7 @@ impl<'t> FileXattrs<'t> {
         end - first
     }
 
-    /// The name at a position, counted from 0; none behind the last.
+    /// The name at a position, counted from 0; none after the last.
     pub fn name(&self, position: u32) -> Option<&'t [u8]>
         ensures { MatchOption result (length self.now ≤ position)
             (λ name. option_map (λ x. x.name) (slice_get self.now position) ≡ Some name.now) }

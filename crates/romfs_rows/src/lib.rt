@@ -1,10 +1,10 @@
-//! Attribute trailers: owners, modes and times of an image's files, in a table behind its full size
+//! Attribute trailers: owners, modes and times of an image's files, in a table after its full size
 //! (`Trailer`, of `romfs_format`).
 //!
 //! [`trailer_fault`] says whether the trailer of a held image, in full or in part, is broken: it
 //! passes over the bytes a few times and takes memory only for the lists of a second part. [`Rows`]
 //! keeps the rows of a good one, in 28 bytes each, and finds the row of a header by binary search
-//! or by position. [`Lists`] lends the bytes of lists of extended attributes whose tables are in
+//! or by position. [`Lists`] lends the bytes of lists of extended attributes if their tables are in
 //! order, finds the value of an attribute by binary search ([`Lists::value_of`]), and compares an
 //! access control list with a mode ([`Lists::agrees`]); [`are_lists`] says whether bytes are lists
 //! that files may have. [`RowLists`] keeps the lists of a good trailer, each once, and lends each

@@ -13,8 +13,8 @@ use crate::lists::Lists;
 use romfs_format::limits::MAX_XATTR_LIST_SIZE;
 use std::cmp::Ordering;
 
-/// Whether bytes are lists that files may have. It goes over names and values once, and over names
-/// twice more.
+/// Whether bytes are lists that files may have. It passes over names and values once, and over
+/// names twice more.
 pub fn are_lists(bytes: &[u8]) -> bool
     ensures { IsTrue result ↔ AreLists bytes.now }
 {
@@ -36,7 +36,7 @@ fn are_right(lists: &Lists<'_>) -> bool
     true
 }
 
-// Whether a list is.
+// Whether one list is.
 #[tactic(auto, unfolding(romfs_format::specs::Part::list_of))]
 fn is_list(lists: &Lists<'_>, number: u32) -> bool
     requires { number < list_count lists.now }

@@ -40,7 +40,7 @@ pub(crate) fn is_part<A: Allocator>(
     Ok(rows_lead(trailer, &part, &Lists::again(&lists), count))
 }
 
-// Whether a part after this many rows is there in full, and its words sum to 0.
+// Whether a part after this many rows is complete, and its words sum to 0.
 #[tactic(auto, unfolding(romfs_format::specs::Part::part_bytes))]
 fn is_framed(part: &Trailer<'_>, count: u32) -> bool
     ensures { IsTrue result ↔ IsFramed count part.now }

@@ -122,7 +122,7 @@ impl<'t> Trailer<'t> {
         copied(alloc, self.image, self.place + at, len)
     }
 
-    /// This many bytes from such a place on, if they are at hand in one piece.
+    /// This many bytes from such a place on, if they are held in one piece.
     pub(crate) fn slice(&self, at: usize, len: usize) -> Option<&'t [u8]>
         requires { at + len ≤ length self.now }
         ensures { IfSome result (λ part. part.now ≡ take len (drop at self.now)) }

@@ -68,8 +68,7 @@ impl<A: Allocator> Rows<A> {
         self.rows.is_empty()
     }
 
-    /// The row for the header at an offset in bytes, if there is one. It takes as many steps as
-    /// the number of rows can be halved.
+    /// The row for the header at an offset in bytes, if there is one, by binary search.
     pub fn at(&self, place: u32) -> Option<AttributeRow>
         ensures value { result ≡ row_at self.now place }
         ensures mode { IfSome result (λ row. row.mode ≤ MAX_MODE) }
@@ -77,8 +76,8 @@ impl<A: Allocator> Rows<A> {
         self.get(self.position(place, 0)?)
     }
 
-    /// The position of that row, counted from 0. A guessed position is tried first; otherwise it
-    /// takes as many steps.
+    /// The position of that row, counted from 0. A guessed position is tried first, then binary
+    /// search.
     pub fn position(&self, place: u32, guess: u32) -> Option<u32>
         ensures value { result ≡ position_at self.now place }
         ensures small { IfSome result (λ position. position + 1 < 2 ^ 32) }
@@ -106,7 +105,7 @@ impl<A: Allocator> Rows<A> {
         }
     }
 
-    /// The row at a position, counted from 0; none behind the last.
+    /// The row at a position, counted from 0; none after the last.
     pub fn get(&self, position: u32) -> Option<AttributeRow>
         ensures value { result ≡ slice_get self.now position }
         ensures mode { IfSome result (λ row. row.mode ≤ MAX_MODE) }

@@ -9,8 +9,8 @@ use crate::lists::Lists;
 use std::cmp::Ordering;
 
 impl<'t> Lists<'t> {
-    /// The value of the attribute with a name in the list with a number, counted from 1; 0 is the
-    /// empty list. It takes as many steps as the list's length can be halved.
+    /// The value of the attribute with a name in the list with a number, counted from 1, by binary
+    /// search; list 0 is empty.
     #[tactic(auto, unfolding(romfs_format::specs::Part::list_of))]
     pub fn value_of(&self, number: u32, name: &[u8]) -> Option<&'t [u8]>
         requires there { number ≤ list_count self.now }

@@ -1,6 +1,6 @@
 -- The walk over the chains of directories other than the root, as lists. It begins with the first
--- headers of the root's own (Seeded, all_seeded); a word is let go (step_stale) or marked, and what
--- it leads on to comes (step_fresh), until none is left and all is marked (all_marked).
+-- headers of the root's own (Seeded, all_seeded); a word is dropped (step_stale) or marked, and
+-- what it leads on to comes (step_fresh), until none is left and all is marked (all_marked).
 use Rattle.std.proofs.Common.{◌≡◌, ◌≢◌, ◌∙◌, sym, ap, subst, ℕ, zero, suc, ◌+◌, ◌*◌, ◌/◌, ◌<◌, ◌≤◌, ◌⊎◌, inl, inr, List, [], ◌∷◌, ◌++◌, length, get_or, set, replicate, Bool, true, false, Option, Some, None, arith, append_assoc, length-append}
 use Rattle.std.specs.List.{Contains}
 use Rattle.std.specs.Option.{option_to_list}
@@ -49,7 +49,7 @@ module _ (a : List ℕ) where
     in_chain = (zero, s.first);
   }
 
-  -- where nothing is left to come, all is marked
+  -- if nothing is left to come, all is marked
   module _ (marks : List Bool) (w : Walked a [] marks) where
     settled : (g : ℕ) → IsInside a g → IsSettled a [] marks g → IsMarked marks g
     settled g i (inl c) = absurd (none_in g c)
@@ -79,7 +79,7 @@ module _ (a : List ℕ) where
           (down z (record { inside = s; kind = t; kept = λ q. p (inr q) }) f) i
     ]
 
-    -- where no word is left to come, the marks are those of all chains but the root's
+    -- if no word is left to come, the marks are those of all chains but the root's
     pub all_marked : AreMarks a (IsElsewhere a) marks
     all_marked = record {
       sized = w.sized;
@@ -89,7 +89,7 @@ module _ (a : List ℕ) where
     }
 
   module _ (todo : List ℕ) (marks : List Bool) where
-    -- a word that is settled is let go
+    -- a word that is settled is dropped
     still : (at g : ℕ) → (¬ IsInside a at) ⊎ IsMarked marks at → IsSettled a (todo ++ at ∷ []) marks g → IsSettled a todo marks g
     still at g s (inr r) = inr r
     still at g s (inl c) = elim (Contains-append_cases todo (at ∷ []) g c) [
@@ -152,11 +152,11 @@ module _ (a todo rest : List ℕ) (marks : List Bool) (at : ℕ) (taken : todo �
   ends : Walked a (rest ++ at ∷ []) marks
   ends = subst (λ x. Walked a x marks) taken w
 
-  -- a word that lies outside, or has a mark, is let go
+  -- a word that lies outside, or has a mark, is dropped
   pub step_stale : (¬ IsInside a at) ⊎ IsMarked marks at → Walked a rest marks
   step_stale s = let_go a rest marks at s ends
 
-  -- a word that is let go leaves less to do
+  -- a word that is dropped leaves less to do
   pub less_stale : left rest marks < left todo marks
   unfolding left
   less_stale = let l : length todo ≡ length rest + 1 = rw taken (length-append rest (at ∷ [])) in omega arith
@@ -190,8 +190,7 @@ some_short : (w : Option ℕ) → length (option_to_list w) ≤ 1
 some_short None = omega arith
 some_short (Some n) = omega arith
 
--- the header after one and the first below it, as far as there are such, are all that it leads on
--- to
+-- the header after one and the first below it, as far as they exist, are all that it leads on to
 pub led : (a : List ℕ) (at : ℕ) {n f : Option ℕ} (before after : List ℕ) → IsTheOne (IsNext a at) n → IsTheOne (IsFirstBelow a at) f
     → after ≡ (before ++ option_to_list n) ++ option_to_list f → Adds (LeadsOn a at) before after
 led a at {n} {f} before after next first k = record {

@@ -223,7 +223,7 @@ module _ (a : List ℕ) where
   place_chained (first_of d) h l = elim ((opened a d).0 l.0) [ inl e ↦ inl e | inr x ↦ inr x.0 ]
   place_chained (next_of g) h l = inr (in_some_chain a l.0 g l.1.opened l.1.in_chain)
 
-  -- a run of slots behind the root's whose headers are in no chain adds nothing to the tally
+  -- a run of slots after the root's whose headers are in no chain adds nothing to the tally
   pub skipped_to : {low high : ℕ} → IsVolumeImage a → (once twice : List Bool) → root a < low * 16
       → IsGap a (IsInSomeChain a) low high → Tallied (Below low) once twice → Tallied (Below high) once twice
   skipped_to {low} {high} v once twice r gap t = over_to (λ k. Tallied (Below k) once twice) low high gap.rising

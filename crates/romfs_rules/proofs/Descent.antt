@@ -1,6 +1,6 @@
--- The walk down from the root, as lists, where no other rule is broken, so that one number of names
--- leads to each header (OnePath). Descends holds at each step (begun, step_stale, step_fresh);
--- where nothing is left to come, the least header that is too deep was found (found).
+-- The walk down from the root, as lists, if no other rule is broken, so one number of names leads
+-- to each header (OnePath). Descends holds at each step (begun, step_stale, step_fresh); if nothing
+-- is left to come, the least header that is too deep was found (found).
 use Rattle.std.proofs.Common.{◌≡◌, ◌≢◌, ◌∙◌, sym, ap, subst, ℕ, zero, suc, ◌+◌, ◌*◌, ◌/◌, ◌<◌, ◌≤◌, ◌⊎◌, inl, inr, List, [], ◌∷◌, ◌++◌, length, get_or, set, min, Bool, true, false, Option, Some, None, IfSome, refl, arith, append_assoc, length-append}
 use Rattle.std.specs.Option.{IsSomeAnd, option_map_or}
 use Rattle.std.specs.List.{Contains}
@@ -74,8 +74,8 @@ led a w {next} {first} before after x y k = record {
 abbrev pub IsSettled : List ℕ → List Waiting → List Bool → Waiting → Type 0
 IsSettled a todo marks v = Contains todo v ⊎ (¬ IsInside a v.header) ⊎ IsMarked marks v.header
 
--- what waits stands where it says, what the marked lead down to is settled, and deep is the least
--- of the marked that are too deep
+-- what waits is below as many names as it says, what the marked lead down to is settled, and deep
+-- is the least of the marked that are too deep
 pub record Descends (a : List ℕ) (todo : List Waiting) (marks : List Bool) (deep : Option ℕ) : Type 0 where
   pub sized : length marks ≡ length a / 16
   pub waits : (w : Waiting) → Contains todo w → StandsBelow a w.names w.header
@@ -118,7 +118,7 @@ there_is P None x = absurd x
 there_is P (Some g) x = (g, refl, x)
 
 module _ (a : List ℕ) (keeps : KeepsAllHeaderRules Usual a) where
-  -- what stands where w leads
+  -- what w leads to is below as many names as it says
   below_too : (w v : Waiting) → StandsBelow a w.names w.header → LeadsDown a w v → StandsBelow a v.names v.header
   below_too w v s (on {h = h} {g = g} {n = n} i) = record
       { dir = s.dir; below = s.below; opened = s.opened; in_chain = (suc s.in_chain.0, (h, s.in_chain.1, i)) }
@@ -136,7 +136,7 @@ module _ (a : List ℕ) (keeps : KeepsAllHeaderRules Usual a) where
   slot_of : (n h : ℕ) → StandsBelow a n h → h / 16 * 16 ≡ h
   slot_of n h s = cleared_in_chain a s.dir h s.in_chain
 
-  -- where nothing is left to come, all is marked
+  -- if nothing is left to come, all is marked
   module _ (marks : List Bool) (deep : Option ℕ) (d : Descends a [] marks deep) where
     settled : (v : Waiting) → IsInside a v.header → IsSettled a [] marks v → IsMarked marks v.header
     settled v i (inl c) = absurd (none_in v c)
@@ -166,7 +166,7 @@ module _ (a : List ℕ) (keeps : KeepsAllHeaderRules Usual a) where
         let m = along n b.0 b.1 b.2.opened (λ h x. firsts n b.0 h b.1 b.2.opened x) b.2.in_chain.0 c b.2.in_chain.1 p.inside in
         led_marked n c (at_names g (n + 1)) (stands_member a keeps n b.0 c b.1 b.2) m (down z p f) j
 
-    -- where nothing is left to come, deep is the least header that is too deep
+    -- if nothing is left to come, deep is the least header that is too deep
     pub found : IsLeast (λ h. BreaksHeader Usual a TooDeep h) deep
     found = record {
       is = λ h e. (rw e at d.holds);
@@ -212,7 +212,7 @@ module _ (a : List ℕ) (keeps : KeepsAllHeaderRules Usual a) where
     itself : Contains todo w
     itself = subst (λ x. Contains x w) (sym taken) (Contains-append_right rest (w ∷ []) w (has_one w))
 
-    -- the header that is taken stands below as many names as it says
+    -- the header that is taken is below as many names as it says
     pub stands : StandsBelow a w.names w.header
     stands = d.waits w itself
 
@@ -232,7 +232,7 @@ module _ (a : List ℕ) (keeps : KeepsAllHeaderRules Usual a) where
             (subst (λ u. (¬ IsInside a u.header) ⊎ IsMarked marks u.header) e s)
       ]
 
-      -- a header that lies outside, or has a mark, is let go
+      -- a header that lies outside, or has a mark, is dropped
       pub step_stale : Descends a rest marks deep
       step_stale = record {
         sized = d.sized;
@@ -247,7 +247,7 @@ module _ (a : List ℕ) (keeps : KeepsAllHeaderRules Usual a) where
     long : length todo ≡ length rest + 1
     long = rw taken (length-append rest (w ∷ []))
 
-    -- a header that is let go leaves less to do
+    -- a header that is dropped leaves less to do
     pub less_stale : left rest marks < left todo marks
     unfolding left
     less_stale = let l = long in omega arith

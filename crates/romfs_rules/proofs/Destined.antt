@@ -1,6 +1,6 @@
 -- The walk over destination chains, as lists. Walks is one walk, which marks what it comes to
 -- (marks_on); Reaches is the scan over slots that follows members' hard links (passes, skips).
--- Marks that are closed hold whole chains (whole), so at last all targets (all_targets).
+-- Marks that are closed hold whole chains (whole), so finally all targets (all_targets).
 use Rattle.std.proofs.Common.{◌≡◌, ◌∙◌, sym, ap, replicate, subst, ℕ, ◌+◌, ◌*◌, ◌/◌, ◌^◌, ◌<◌, ◌⊎◌, inl, inr, List, length, get_or, set, Bool, true, false, arith}
 use Rattle.std.proofs.lemmas.List.{length-set, length-replicate}
 use Rattle.std.proofs.lemmas.Bool.{cases_eq, true≢false}
@@ -15,7 +15,7 @@ use Rattle.romfs_rules.proofs.Slots.{IsGap, twice_cleared, cleared_in_chain}
 use Rattle.romfs_rules.proofs.Standing.{member_in_chain}
 use Rattle.romfs_sets.proofs.Marks.{unmarked, no_marks, marks_fall, newly_set, still_set, was_set}
 
--- where a hard link on a destination chain leads is on that chain too
+-- the destination of a hard link on a destination chain is on that chain too
 pub goes_on : (a : List ℕ) {h g : ℕ} → IsDestination a h g → IsHardLink a g → IsDestination a h (destination a g)
 goes_on a (here l) m = there l (here m)
 goes_on a (there l d) m = there l (goes_on a d m)
@@ -25,7 +25,7 @@ hard a (here l) = l
 hard a (there l d) = l
 
 module _ (a : List ℕ) where
-  -- the walk along one header's destinations stands at another; each marked hard link but that is
+  -- the walk along one header's destinations is at another; each marked hard link but that is
   -- followed
   pub record Walks (from at : ℕ) (old marks : List Bool) : Type 0 where
     pub sized : length marks ≡ length a / 16
@@ -56,7 +56,7 @@ module _ (a : List ℕ) where
     stays_followed h (inl m) = inl (still_set marks (to / 16) (destination a h / 16) fits m)
     stays_followed h (inr n) = inr n
 
-    -- a destination inside the image gets a mark, and the walk stands there
+    -- a destination inside the image gets a mark, and the walk moves there
     pub marks_on : Walks from to old (set marks (to / 16) true)
     marks_on = record {
       sized = length-set marks (to / 16) true ∙ w.sized;

@@ -34,11 +34,11 @@ back a h Nowhere l x = no l x
     no l x e (stays n) = n l
     no l x e (follows m f) = x e f
 
--- where a member that is a hard link leads is on a member's destination chain
+-- the destination of a member that is a hard link is on a member's destination chain
 pub first_target : (a : List ℕ) (h : ℕ) → IsSomeMember a h → IsHardLink a h → IsTarget a (cleared (spec a h))
 first_target a h m l = (m.0, h, m.1, here l)
 
--- where a hard link on a member's destination chain leads is on it too
+-- the destination of a hard link on a member's destination chain is on it too
 pub next_target : (a : List ℕ) (h : ℕ) → IsTarget a h → IsHardLink a h → IsTarget a (cleared (spec a h))
 next_target a h t l = (t.0, t.1, t.2, goes_on a t.3 l)
 
@@ -55,7 +55,7 @@ pub record Going (a : List ℕ) (ends : List End) (from at : ℕ) (marks : List 
   pub closed : (k : ℕ) → get_or marks k 0 ≡ length ends + 1
       → (cleared (spec a (k * 16)) ≡ at) ⊎ (get_or marks (cleared (spec a (k * 16)) / 16) 0 ≡ length ends + 1)
 
--- 1 where no walk passed, else 0
+-- 1 if no walk passed, otherwise 0
 abbrev pub fresh : ℕ → ℕ
 fresh zero = 1
 fresh (suc n) = 0
@@ -65,7 +65,7 @@ unfoldable pub unmarked : List ℕ → ℕ
 unmarked marks = sum_by fresh marks
 
 module _ (a : List ℕ) (ends : List End) where
-  -- a walk begins where it stands, with the marks of earlier walks
+  -- a walk begins at its header, with the marks of earlier walks
   pub goes : (from : ℕ) (marks : List ℕ) → length marks ≡ length a / 16 → from < 2 ^ 32 → cleared from ≡ from
       → HasEnds a marks ends → Going a ends from from marks
   goes from marks s l c h = record {
@@ -136,7 +136,7 @@ module _ (a : List ℕ) (ends : List End) where
     now_marked : get_or (set marks (at / 16) (length ends + 1)) (at / 16) 0 ≡ length ends + 1
     now_marked = get_or-set_same marks (at / 16) (length ends + 1) 0 fits
 
-    -- a mark is the new one, or was there
+    -- a mark is the new one, or existed before
     by_mark : {Q : Type 0} (k v : ℕ) → get_or (set marks (at / 16) (length ends + 1)) k 0 ≡ v
         → (k * 16 ≡ at → length ends + 1 ≡ v → Q) → (get_or marks k 0 ≡ v → Q) → Q
     by_mark k v e new old = elim (cases_eq k (at / 16)) [
@@ -187,7 +187,8 @@ module _ (a : List ℕ) (ends : List End) where
   meets {at = at} g m e z o = let h = g.high (at / 16) in let q : m ≡ suc (m - 1) = omega arith in
       subst (λ y. EndsAs a y (get_or ends (m - 1) AtDirectory)) g.aligned (g.past (at / 16) (m - 1) (e ∙ q) (omega arith))
 
--- a walk that is under way has kept earlier marks, and marked where it began unless it stands there
+-- a walk that is under way has kept earlier marks, and marked where it began unless it is still
+-- there
 pub record Passing (from at : ℕ) (before marks : List ℕ) : Type 0 where
   pub sized : length marks ≡ length before
   pub kept : (k : ℕ) → get_or before k 0 ≢ 0 → get_or marks k 0 ≢ 0
@@ -203,7 +204,7 @@ set_mark marks i k n l h e = elim (cases_eq k i) [
   | inr q ↦ h (sym (get_or-set_other marks i k (n + 1) 0 q) ∙ e)
 ]
 
--- a walk that marks where it stands, and goes on, keeps earlier marks
+-- a walk that marks its header, and goes on, keeps earlier marks
 pub passing_on : (from at to n : ℕ) (before marks : List ℕ) → Passing from at before marks
     → at / 16 < length marks → Passing from to before (set marks (at / 16) (n + 1))
 passing_on from at to n before marks p l = record {

@@ -101,7 +101,7 @@ class_below {heads = heads} n c = let s = n.sized in let t = c.sized in record {
   each = λ k m. let b = c.below k (omega arith) in omega arith;
 }
 
--- the list of a set's places holds the headers inside the image that the set is of, rising
+-- the list of a set's places holds the headers of the set inside the image, rising
 pub lists_marks : (a : List ℕ) (P : ℕ → Type 0) (set : List Bool) (heads : List ℕ) → AreMarks a P set → AreCollected set (length set) heads
     → IsListOf a P heads
 lists_marks a P set heads m w = record {

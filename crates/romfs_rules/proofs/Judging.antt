@@ -1,4 +1,4 @@
--- What the tests of the rules say of a header: each is true exactly where its fact holds. They are
+-- What the tests of the rules say of a header: each is true exactly if its fact holds. They are
 -- joined by and_known, or_else and or_true, and read a mark (mark_says), a list (rises, list_says,
 -- listed_says), the data (data_says), or the end of hard links, which is one (one_end, link_says).
 use Rattle.std.proofs.Common.{◌≡◌, ◌∙◌, sym, subst, ℕ, ◌/◌, ◌<◌, ◌≤◌, ◌↔◌, ◌⊎◌, inl, inr, List, Bool, get_or, true, false, Some, IsTrue, IsSomeAnd, Contains, length, refl, arith}
@@ -16,11 +16,11 @@ use Rattle.romfs_rules.specs.Marks.{HasSlot, AreMarks, IsListOf, IsElsewhere}
 use Rattle.romfs_rules.specs.SameNames.{HaveSameNamesIfAlone}
 use Rattle.romfs_rules.proofs.Slots.{marked}
 
--- where a test is false, its fact does not hold
+-- if a test is false, its fact does not hold
 pub fails : {P : Type 0} {b : Bool} → IsTrue b ↔ P → b ≡ false → ¬ P
 fails t e p = false≢true (sym e ∙ t.1 p)
 
--- a test that reads the mark of a header says whether it is one of those that the marks are of
+-- a test that reads the mark of a header says whether the header is in the marked set
 pub mark_says : (a : List ℕ) (P : ℕ → Type 0) (marks : List Bool) (h : ℕ) (b : Bool) → AreMarks a P marks
     → HasSlot a h → b ≡ get_or marks (h / 16) false → IsTrue b ↔ P h
 mark_says a P marks h b m s e = (
@@ -29,7 +29,7 @@ mark_says a P marks h b m s e = (
       ∙ (marked a P marks h m s.aligned s.inside).1 p,
 )
 
--- a list of rising numbers rises whatever stands beyond its end
+-- a list of rising numbers rises whatever is beyond its end
 pub rises : (xs : List ℕ) → ((i j : ℕ) → i < j → j < length xs → get_or xs i 0 < get_or xs j 0) → (i j d : ℕ) → i ≤ j → j < length xs
     → get_or xs i d ≤ get_or xs j d
 rises xs rising i j d l m = elim (cases_order i j) [
@@ -42,19 +42,19 @@ rises xs rising i j d l m = elim (cases_order i j) [
   | inr (inr k) ↦ absurd (omega arith)
 ]
 
--- where one fact is known to hold, the test of another says whether both do
+-- if one fact is known to hold, the test of another says whether both do
 pub and_known : {P Q : Type 0} {b c : Bool} → IsTrue b ↔ Q → b ≡ true → IsTrue c ↔ P → IsTrue c ↔ (P × Q)
 and_known s e t = (λ y. (t.0 y, s.0 e), λ x. t.1 x.0)
 
--- where one test is false, another says whether either fact holds
+-- if one test is false, another says whether either fact holds
 pub or_else : {P Q : Type 0} {b c : Bool} → IsTrue b ↔ P → b ≡ false → IsTrue c ↔ Q → IsTrue c ↔ (P ⊎ Q)
 or_else s e t = (λ y. inr (t.0 y), elim [ inl p ↦ absurd (fails s e p) | inr q ↦ t.1 q ])
 
--- where one test is true, it says that its fact or any other holds
+-- if one test is true, it says that its fact or any other holds
 pub or_true : {P Q : Type 0} {b : Bool} → IsTrue b ↔ P → b ≡ true → IsTrue b ↔ (P ⊎ Q)
 or_true s e = (λ y. inl (s.0 y), λ x. e)
 
--- the root's header stands elsewhere exactly where the rule against two links says so
+-- the root's header is elsewhere exactly if the rule against two links says so
 pub root_elsewhere : (a : List ℕ) (h : ℕ) → h ≡ root a → IsElsewhere a h ↔ IsRootElsewhere a h
 root_elsewhere a h e = (
   λ x. (e, (x.dir, x.other, record { opened = x.opened; in_chain = x.in_chain })),
@@ -80,15 +80,13 @@ one_end a h Nowhere AtDirectory x y = absurd (x y.0 y.1)
 one_end a h Nowhere AtOther x y = absurd (x y.0 y.1)
 one_end a h Nowhere Nowhere x y = refl
 
--- where it is known how a member's hard links end, comparing that with an end says whether they end
--- so
+-- if it is known how a member's hard links end, comparing that with an end says whether they end so
 pub link_says : (a : List ℕ) (h : ℕ) (end r : End) (b : Bool)
     → IsSomeMember a h × IsHardLink a h × EndsAs a h end → b ≡ true ↔ (end ≡ r)
     → IsTrue b ↔ (IsSomeMember a h × IsHardLink a h × EndsAs a h r)
 link_says a h end r b x e = (λ t. (x.0, x.1, subst (λ y. EndsAs a h y) (e.0 t) x.2), λ y. e.1 (one_end a h end r x.2 y.2))
 
--- where its data would end outside, whether a header has data that is used says if it breaks the
--- rule
+-- if its data would end outside, whether a header has data that is used says if it breaks the rule
 pub data_says : (a : List ℕ) (h : ℕ) (n : List ℕ) (b : Bool) → Some n ≡ name a h
     → EndsOutside a h n → IsTrue b ↔ (IsUsed a h × HasData a h)
     → IsTrue b ↔ BreaksHeader Usual a DataOutside h
@@ -97,7 +95,7 @@ data_says a h n b e l t = (
   λ x. t.1 (x.0, x.1),
 )
 
--- where a header inside with a bad name is known, being a member is breaking that rule
+-- if a header inside has a bad name, being a member is breaking that rule
 pub bad_says : (a : List ℕ) (h : ℕ) (n : List ℕ) (b : Bool) → IsInside a h → Some n ≡ name a h
     → IsBadName n → IsTrue b ↔ IsSomeMember a h → IsTrue b ↔ BreaksHeader Usual a NameBad h
 bad_says a h n b i e l t = (
@@ -109,7 +107,7 @@ bad_says a h n b i e l t = (
 alone : (a : List ℕ) (h : ℕ) → (IsElsewhere a (root a) → h ≡ root a) → ¬ BreaksHeader Usual a LinkedTwice h → ¬ IsElsewhere a (root a)
 alone a h only once e = once (inr ((root_elsewhere a h (only e)).0 (subst (λ y. IsElsewhere a y) (sym (only e)) e)))
 
--- where no two links name a header, looking it up among equal names says if it breaks that rule
+-- if no two links name a header, looking it up among equal names says if it breaks that rule
 pub listed_says : (a : List ℕ) (h : ℕ) (hs : List ℕ) (b : Bool) → HaveSameNamesIfAlone a hs
     → (IsElsewhere a (root a) → h ≡ root a) → IsTrue b ↔ Contains hs h → ¬ BreaksHeader Usual a LinkedTwice h
     → IsTrue b ↔ BreaksHeader Usual a SameName h
@@ -117,7 +115,7 @@ listed_says a h hs b s only t once =
     let n = s.names (alone a h only once) in
     (λ y. n.each h (t.0 y), λ x. t.1 (n.all h x))
 
--- looking a header up in a list of headers says whether it is one of those that the list is of
+-- looking a header up in a list of headers says whether it is in the set of the list
 pub list_says : (a : List ℕ) (P : ℕ → Type 0) (hs : List ℕ) (h : ℕ) (b : Bool) → IsListOf a P hs → HasSlot a h → IsTrue b ↔ Contains hs h
     → IsTrue b ↔ P h
 list_says a P hs h b l s t = (λ y. l.each h (t.0 y), λ p. t.1 (l.all h p s.inside s.aligned))

@@ -8,20 +8,20 @@ use Rattle.romfs_format.specs.Links.{IsHardLink, destination}
 use Rattle.romfs_rules.specs.Marks.{Opens}
 use Rattle.romfs_rules.specs.Leads.{IsTheOne}
 
--- where P holds of no header, there is no word
+-- if P holds of no header, there is no word
 pub nowhere : (P : ℕ → Type 0) → ((g : ℕ) → ¬ P g) → IsTheOne P None
 nowhere P n = record { each = λ g. (λ e. cc, λ p. absurd (n g p)) }
 
--- where P holds of one header alone, that is the word
+-- if P holds of one header alone, that is the word
 pub there : (P : ℕ → Type 0) (w : ℕ) → P w → ((g : ℕ) → P g → g ≡ w) → IsTheOne P (Some w)
 there P w p o = record { each = λ g. (λ e. let q : w ≡ g = cc in subst P q p, λ x. ap Some (sym (o g x))) }
 
 module _ (a : List ℕ) (at : ℕ) where
-  -- where next is 0, there is no header after
+  -- if next is 0, there is no header after
   pub next_none : (w : ℕ) → w ≡ next a at → w ≡ 0 → IsTheOne (IsNext a at) None
   next_none w e z = nowhere (IsNext a at) (λ g n. n.2 (n.1 ∙ sym e ∙ z))
 
-  -- where next is not 0, it is the header after
+  -- if next is not 0, it is the header after
   pub next_some : (w : ℕ) → IsInside a at → w ≡ next a at → w ≢ 0 → IsTheOne (IsNext a at) (Some w)
   next_some w i e z = there (IsNext a at) w (i, e, z) (λ g n. n.1 ∙ sym e)
 

@@ -9,7 +9,7 @@ use Rattle.romfs_rules.proofs.Standing.{in_some_chain}
 use Rattle.romfs_rules.proofs.Leads.{nowhere}
 
 module _ (a : List ℕ) where
-  -- a header in some chain stands in that of an opened directory
+  -- a header in some chain is in that of an opened directory
   pub standing : (h : ℕ) → IsInSomeChain a h → (d : ℕ) × Stands a d h
   standing h (inl c) = (root a, record { opened = at_root refl; in_chain = c })
   standing h (inr e) = (e.dir, record { opened = e.opened; in_chain = e.in_chain })
@@ -26,6 +26,6 @@ module _ (a : List ℕ) where
   pub first_named : (d : ℕ) (word : Option ℕ) → IsOpened a d → IsTheOne (IsFirst a d) word → IsTheOne (IsLink a (first_of d)) word
   first_named d word p o = record { each = λ g. (λ e. (p, (o.each g).0 e), λ l. (o.each g).1 l.1) }
 
-  -- of a header that is no opened directory, first names nothing
+  -- of a header that is not an opened directory, first names nothing
   pub no_first : (d : ℕ) → ¬ IsOpened a d → IsTheOne (IsLink a (first_of d)) None
   no_first d n = nowhere (IsLink a (first_of d)) (λ g l. n l.0)

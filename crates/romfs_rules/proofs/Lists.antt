@@ -1,5 +1,5 @@
 -- Lists of none and of one element: what is in them (none_in, one_in, has_one), and that a list
--- without a last element is empty (none_left). Each stands alone.
+-- without a last element is empty (none_left). Each is independent of the others.
 use Rattle.std.proofs.Common.{◌≡◌, ◌∙◌, ap, ℕ, zero, suc, ◌-◌, List, [], ◌∷◌, ◌++◌, take, refl, arith}
 use Rattle.std.specs.List.{Contains}
 use Rattle.std.proofs.lemmas.List.{append-nil}

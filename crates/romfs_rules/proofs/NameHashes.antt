@@ -20,7 +20,7 @@ some_none x e = cc
 pub no_hashes : (name : ℕ → Option (List ℕ)) (hashes : List ℕ) → hashes ≡ [] → AreNameHashes name 0 hashes
 no_hashes name hashes e = record { level = ap length e; each = λ k q l. absurd (omega arith) }
 
--- one number more has its hash once what its name is mixed to, if it has one, is added
+-- one number more has its hash once the hash of its name, if it has one, is added
 pub one_hash : (name : ℕ → Option (List ℕ)) (i h : ℕ) (hashes hashes' : List ℕ)
     → ((q : List ℕ) → name i ≡ Some q → h ≡ name_hash q) → hashes' ≡ hashes ++ h ∷ []
     → AreNameHashes name i hashes → AreNameHashes name (i + 1) hashes'
@@ -32,11 +32,11 @@ one_hash name i h hashes hashes' own push w = record {
   ];
 }
 
--- the first n numbers stand apart
+-- the first n numbers have different hashes
 abbrev pub AreApartTo : List ℕ → ℕ → Type 0
 AreApartTo hashes n = (i j : ℕ) → i < n → j < n → slice_index hashes i ≡ slice_index hashes j → i ≡ j
 
--- numbers that stand apart, and one more that is not among them, stand apart
+-- numbers with different hashes, and one more whose hash is not among theirs, have different hashes
 pub apart_more : (hashes : List ℕ) (n : ℕ) → ((k : ℕ) → k < n → slice_index hashes k ≢ slice_index hashes n)
     → AreApartTo hashes n → AreApartTo hashes (n + 1)
 apart_more hashes n new old = λ i j p q e. elim (below_or_at i n p) [

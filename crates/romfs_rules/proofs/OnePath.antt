@@ -19,7 +19,7 @@ abbrev pub IsBelow : List ℕ → ℕ → ℕ → Type 0
 IsBelow a zero h = h ≡ root a
 IsBelow a (suc n) h = (d : ℕ) × IsBelow a n d × IsMember a d h
 
--- n names lead to a directory in whose chain h stands
+-- n names lead to a directory with h in its chain
 pub record StandsBelow (a : List ℕ) (n h : ℕ) : Type 0 where
   pub dir : ℕ
   pub below : IsBelow a n dir
@@ -42,7 +42,7 @@ module _ (a : List ℕ) (keeps : KeepsAllHeaderRules Usual a) where
   next_link : (d n g h : ℕ) → IsOpened a d → IsAt a d n g → IsNext a g h → IsLink a (next_of g) h
   next_link d n g h o x y = (d, record { opened = o; in_chain = (n, x) }, y)
 
-  -- a header stands in one chain
+  -- a header is in one chain
   one_dir : (d e i j h : ℕ) → IsOpened a d → IsOpened a e → IsAt a d i h → IsAt a e j h → d ≡ e
   one_dir d e zero zero h o p x y = one_first d e h (o, x) (p, y)
   one_dir d e zero (suc j) h o p x y = absurd (not_both d y.0 h (o, x) (next_link e j y.0 h p y.1 y.2))
@@ -66,7 +66,7 @@ module _ (a : List ℕ) (keeps : KeepsAllHeaderRules Usual a) where
       let e = one_dir y.0 x.0 y.2.in_chain.0 x.2.in_chain.0 d y.2.opened x.2.opened y.2.in_chain.1 x.2.in_chain.1 in
       ap (λ k. suc k) (one_depth n m x.0 x.1 (subst (λ c. IsBelow a m c) e y.1))
 
-  -- a header stands below one number of names alone
+  -- a header is below one number of names alone
   pub one_standing : (n m h : ℕ) → StandsBelow a n h → StandsBelow a m h → n ≡ m
   one_standing n m h x y =
       let e = one_dir y.dir x.dir y.in_chain.0 x.in_chain.0 h y.opened x.opened y.in_chain.1 x.in_chain.1 in
@@ -131,7 +131,7 @@ module _ (a : List ℕ) (keeps : KeepsAllHeaderRules Usual a) where
       go zero b l = absurd (omega arith)
       go (suc n) b l = (n, omega arith, b.0, b.1, b.2)
 
-  -- a member of a directory stands below as many names as lead to that
+  -- a member of a directory is below as many names as lead to that
   pub stands_member : (n d h : ℕ) → IsBelow a n d → IsMember a d h → StandsBelow a n h
   stands_member n d h b m = record { dir = d; below = b; opened = m.opened; in_chain = m.in_chain }
 

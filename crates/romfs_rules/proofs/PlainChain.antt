@@ -1,6 +1,6 @@
 -- The walk along one chain, as lists. Chained says what was passed before the next header (begun),
--- also once that is passed (steps), with what its name is mixed to (hashed_more); where there is no
--- next one, the whole chain was (ended).
+-- also once that is passed (steps), with the hash of its name (hashed_more); if there is no next
+-- one, the whole chain was passed (ended).
 use Rattle.std.proofs.Common.{◌≡◌, ◌∙◌, sym, ap, subst, ℕ, zero, suc, ◌+◌, ◌-◌, ◌/◌, ◌<◌, inl, inr, List, [], ◌∷◌, ◌++◌, length, get_or, set, not, Bool, true, false, Option, Some, None, refl, arith, length-append}
 use Rattle.std.specs.List.{count_by}
 use Rattle.std.proofs.lemmas.List.{length-set, get_or_at, get_or_append_left}
@@ -134,7 +134,7 @@ module _ (a : List ℕ) (w : Folder) (old : WalkState) where
             ]
           ]
 
-      -- the next header is passed where it is new and plain
+      -- the next header is passed if it is new and plain
       pub steps : (next : Option ℕ) → IsTheOne (IsNext a at) next → Chained a w old later next
       steps next n = record {
         front = record {
@@ -159,7 +159,7 @@ module _ (a : List ℕ) (w : Folder) (old : WalkState) where
             subst (λ m. IsTheOne (IsAt a w.header m) next) e (goes_on next n));
       }
 
-  -- where no header is next, the whole chain was passed
+  -- if no header is next, the whole chain was passed
   pub ended : (now : WalkState) → Chained a w old now None
       → AreNameHashes (kept_names a now.heads) (length now.heads) now.hashes → PassesChain a w old now
   ended now c m = record { front = c.front; hashed = m; whole = short }
@@ -179,7 +179,7 @@ module _ (a : List ℕ) (w : Folder) (old : WalkState) where
 pub none_hashed : (a heads hashes : List ℕ) → heads ≡ [] → hashes ≡ [] → AreNameHashes (kept_names a heads) (length heads) hashes
 none_hashed a heads hashes e f = rw (e, f) (record { level = refl; each = λ k q l. absurd (omega arith) })
 
--- one header more has what its name is mixed to
+-- one header more has the hash of its name
 pub hashed_more : (a : List ℕ) (at hash : ℕ) (heads hashes : List ℕ) → ((q : List ℕ) → name a at ≡ Some q → hash ≡ name_hash q)
     → AreNameHashes (kept_names a heads) (length heads) hashes
     → AreNameHashes (kept_names a (heads ++ at ∷ [])) (length (heads ++ at ∷ [])) (hashes ++ hash ∷ [])

@@ -1,5 +1,5 @@
 -- An image whose directories were all walked keeps every rule. Each opened directory was walked (was_gone), so each header of its chain was
--- passed (seen), each target is where a link ends right away (target), one field names a header (one_field), and paths are short (short).
+-- passed (seen), each target is the direct end of a link (target), one field names a header (one_field), and paths are short (short).
 use Rattle.std.proofs.Common.{◌≡◌, ◌≢◌, ◌∙◌, sym, ap, subst, ℕ, zero, suc, ◌+◌, ◌<◌, ◌≤◌, ◌⊎◌, inl, inr, List, [], ◌∷◌, length, get_or, Bool, Some, IsNone, IsSomeAnd, refl, arith}
 use Rattle.std.specs.List.{Contains}
 use Rattle.std.proofs.lemmas.Bool.{false≢true, true≢false}
@@ -24,7 +24,7 @@ use Rattle.romfs_rules.proofs.SameNaming.{one_at, keeps}
 use Rattle.romfs_rules.proofs.Verdict.{by_rule}
 use Rattle.romfs_rules.proofs.PlainWalk.{IsKnown, IsSeen, Descends, seen_at}
 
--- what is known, where nothing is to come, was gone along
+-- what is known, if nothing is to come, was walked
 gone_along : (done : List Folder) (v : Folder) → IsKnown [] done v → Contains done v
 gone_along done v (inl c) = absurd (none_in v c)
 gone_along done v (inr c) = c
@@ -34,7 +34,7 @@ module _ (a : List ℕ) where
   hard_at (here l) = l
   hard_at (there l y) = l
 
-  -- a hard link that ends right where it leads has that on its chain alone
+  -- a hard link that leads directly to its end has that on its chain alone
   right_away : {h g : ℕ} → IsDestination a h g → (IsHardLink a h → IsPlainEnd a (destination a h)) → IsPlainEnd a g
   right_away (here l) p = p l
   right_away (there l y) p = absurd ((p l).no_link (hard_at y).1)
@@ -46,7 +46,7 @@ module _ (a : List ℕ) (v : IsVolumeImage a) (marks : List Bool) (d : Descends 
   in_gone : (c n h : ℕ) → Contains d.done (folder c n) → IsInChain a c h → IsSeen a marks [] d.done (folder c n) h
   in_gone c n h k x = seen_at a marks [] d.done (folder c n) h (d.gone (folder c n) k) x
 
-  -- each opened directory was gone along, with some number of names
+  -- each opened directory was walked, with some number of names
   was_gone : (h : ℕ) → IsOpened a h → (n : ℕ) × Contains d.done (folder h n)
   was_gone h (at_root e) = (0, subst (λ y. Contains d.done (folder y 0)) (sym e) root_gone)
   was_gone h (below {d = c} o k p i t) =
@@ -97,7 +97,7 @@ module _ (a : List ℕ) (v : IsVolumeImage a) (marks : List Bool) (d : Descends 
   one_field_at c zero f g x y = x ∙ sym y
   one_field_at c (suc i) f g x y = x.2 ∙ ap next_of (one_at a c i x.0 y.0 x.1 y.1) ∙ sym y.2
 
-  -- where a field that names a header leads to it
+  -- the place in a chain to which a field that names a header leads
   record IsNamedAt (f : Field) (h : ℕ) : Type 0 where
     dir : ℕ
     names : ℕ
@@ -145,7 +145,7 @@ module _ (a : List ℕ) (v : IsVolumeImage a) (marks : List Bool) (d : Descends 
   kept_of : (c h : ℕ) (q : List ℕ) → IsMember a c h → name a h ≡ Some q → kept_name a h ≡ Some q
   kept_of c h q m e = keeps a h q (not_root c h m) (member c h m).0 (λ x. m.kept (inr x)) e
 
-  -- no two members of a directory have one name
+  -- no two members of a directory have the same name
   no_namesake : (g h : ℕ) → ¬ IsNamesake a g h
   no_namesake g h (l, (c, m, k), ng, nh, e) =
       let r = was_gone c m.opened in
@@ -191,7 +191,7 @@ module _ (a : List ℕ) (v : IsVolumeImage a) (marks : List Bool) (d : Descends 
     header_sum = λ x. false≢true x.0;
   }) r
 
-  -- a path from a directory that was gone along is short
+  -- a path from a walked directory is short
   short : (x : List ℕ) (path : List (List ℕ)) (c n h : ℕ) → Contains d.done (folder c n) → Leads a c (x ∷ path) h
       → n + suc (length path) ≤ MAX_NAMES
   short x [] c n h k l = let p = (in_gone c n l.0 k l.1.in_chain).plain.depth in omega arith
@@ -209,6 +209,6 @@ module _ (a : List ℕ) (v : IsVolumeImage a) (marks : List Bool) (d : Descends 
       go [] l m = omega arith
       go (x ∷ path) l m = let b = short x path (root a) 0 h root_gone l in omega arith
 
-  -- where no directory is to come, no rule is broken
+  -- if no directory is to come, no rule is broken
   pub all_kept : KeepsPlainly a
   all_kept = record { headers = record { keeps = λ r h x. kept r h x }; depth = no_deep }

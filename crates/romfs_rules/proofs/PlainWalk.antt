@@ -16,17 +16,17 @@ use Rattle.romfs_rules.proofs.SameNaming.{one_at}
 use Rattle.romfs_rules.proofs.PlainChain.{counted}
 use Rattle.romfs_sets.proofs.Marks.{unmarked}
 
--- a directory is still to come, or was gone along
+-- a directory is still to come, or was walked
 abbrev pub IsKnown : List Folder → List Folder → Folder → Type 0
 IsKnown todo done v = Contains todo v ⊎ Contains done v
 
--- a header of the chain of a directory that was gone along
+-- a header of the chain of a walked directory
 pub record IsSeen (a : List ℕ) (marks : List Bool) (todo done : List Folder) (w : Folder) (h : ℕ) : Type 0 where
   pub plain : IsPlainHeader a w h
   pub marked : IsMarked marks h
   pub comes : h ≢ root a → Opens a h → IsKnown todo done (folder h (w.names + 1))
 
--- the chain of w was gone along
+-- the chain of w was walked
 pub record IsGone (a : List ℕ) (marks : List Bool) (todo done : List Folder) (w : Folder) : Type 0 where
   pub heads : List ℕ
   pub at : (i h : ℕ) → IsAt a w.header i h → (i < length heads) × (get_or heads i 0 ≡ h)
@@ -34,7 +34,7 @@ pub record IsGone (a : List ℕ) (marks : List Bool) (todo done : List Folder) (
   pub apart : (i j : ℕ) → i < length heads → j < length heads → get_or heads i 0 ≡ get_or heads j 0 → i ≡ j
   pub names : HaveNamesApart a heads
 
--- the root comes or was gone along, and what was gone along has chains of its own
+-- the root comes or was walked, and walked directories have chains of their own
 pub record Descends (a : List ℕ) (todo : List Folder) (marks : List Bool) : Type 0 where
   pub sized : length marks ≡ length a / 16
   pub done : List Folder
@@ -117,7 +117,7 @@ module _ (a : List ℕ) where
       names = f.apart;
     }
 
-    -- a header of this chain is in no chain that was gone along before
+    -- a header of this chain is in no chain that was walked before
     no_other : (v : Folder) (h : ℕ) → Contains d.done v → IsInChain a v.header h → IsInChain a w.header h → ⊥
     no_other v h k x y =
         let s = seen_at a old.marks todo d.done v h (d.gone v k) x in
@@ -138,7 +138,7 @@ module _ (a : List ℕ) where
       ]
     ]
 
-    -- one more directory was gone along
+    -- one more directory was walked
     pub steps : Descends a new.todo new.marks
     steps = record {
       sized = f.chain.front.sized ∙ d.sized;
@@ -155,7 +155,7 @@ module _ (a : List ℕ) where
       one = one_too;
     }
 
-    -- a directory that was gone along leaves less to do
+    -- a walked directory leaves less to do
     pub less : left new.todo new.marks < left todo old.marks
     unfolding left
     less =

@@ -74,13 +74,13 @@ module _ (a : List ℕ) (at : ℕ) where
       → IsTheOne (λ g. IsHardLink a at × (g ≡ destination a at)) word → IsTheOne (NamesDestination a at) word
   destination_named word u o = record { each = λ g. (λ e. (let x = (o.each g).0 e in (u, x.0, x.1)), λ x. (o.each g).1 (x.1, x.2)) }
 
-  -- a header that is no hard link, or neither a member nor on a member's chain, names no
+  -- a header that is not a hard link, or neither a member nor on a member's chain, names no
   -- destination
   pub destination_unnamed : ¬ ((IsSomeMember a at ⊎ IsTarget a at) × IsHardLink a at) → IsTheOne (NamesDestination a at) None
   destination_unnamed n = nowhere (NamesDestination a at) (λ g x. n (x.0, x.1))
 
 module _ (Q : ℕ → Type 0) (found : Option ℕ) where
-  -- where there is no word, what was found stays
+  -- if there is no word, what was found stays
   pub unnamed : Notes (λ h. ◌≡◌ {A = Option ℕ} None (Some h)) Q found found
   unnamed = record { is = λ h e. inl e; old = λ h e. (h, e, omega arith); new = λ h e q. cc }
 
@@ -149,7 +149,7 @@ then_of V W Q before middle after m n = record {
     onward h g e l = let x = n.old g e in (x.0, x.1, omega arith)
 
 module _ (a : List ℕ) (at : ℕ) where
-  -- where spec.info names a place inside the image, nothing is noted
+  -- if spec.info names a place inside the image, nothing is noted
   pub noted_inside : (found : Outside) → IsInside a (cleared (word a (at + 4))) → NotesOnBoth a (NamesBySpec a at) found found
   noted_inside found i = (
     stays (IsBeforeRoot a) found.below (λ h x q. let l = x.0 in omega arith),
@@ -211,7 +211,7 @@ module _ (a : List ℕ) (Q : ℕ → Type 0) where
   abbrev pub IsFoundBefore : ℕ → Option ℕ → Type 0
   IsFoundBefore n found = IsLeast (λ g. IsLedToBefore a n g × Q g) found
 
-  -- below the root's slot nothing is found, as no header stands there
+  -- below the root's slot nothing is found, as no header is there
   pub nothing : (n : ℕ) → n ≡ root a / 16 → IsFoundBefore n None
   nothing n e = record {
     is = λ h x. cc;
@@ -262,7 +262,7 @@ module _ (a : List ℕ) (Q : ℕ → Type 0) where
       )))
       l
 
-  -- a run of slots behind the root's whose headers are not reached is scanned with nothing noted
+  -- a run of slots after the root's whose headers are not reached is scanned with nothing noted
   pub scanned_to : {low high : ℕ} (found : Option ℕ) → root a < low * 16 → IsGap a (IsInSomeChain a) low high
       → IsGap a (IsTarget a) low high → IsFoundBefore low found → IsFoundBefore high found
   scanned_to {low} {high} found r chains targets f = over_to (λ k. IsFoundBefore k found) low high chains.rising f
@@ -290,5 +290,5 @@ module _ (a : List ℕ) (Q : ℕ → Type 0) where
             q,
           )
 
--- what becomes of what was found, by an optional word
+-- what happens to what was found, by an optional word
 pub ruleset notes = (unnamed, noted, unnoted)

@@ -1,6 +1,6 @@
 -- The walk along the root's chain, as lists. Walked holds at its beginning (begun) and after each
--- step, which marks where it stands (steps); where it stands outside or at a mark, all of the chain
--- is marked (all_marked).
+-- step, which marks its header (steps); if it is outside or at a mark, all of the chain is marked
+-- (all_marked).
 use Rattle.std.proofs.Common.{◌≡◌, ◌≢◌, ◌∙◌, sym, ap, subst, ℕ, zero, suc, ◌*◌, ◌/◌, ◌<◌, ◌⊎◌, inl, inr, List, length, get_or, set, replicate, Bool, true, false, refl, arith}
 use Rattle.std.proofs.lemmas.List.{length-set, length-replicate}
 use Rattle.romfs_format.specs.Fields.{root, IsInside, next, spec, cleared}
@@ -13,7 +13,7 @@ use Rattle.romfs_sets.proofs.Marks.{no_marks, newly_set, still_set}
 abbrev IsDone : List ℕ → List Bool → ℕ → ℕ → Type 0
 IsDone a marks at g = (g ≡ at) ⊎ (¬ IsInside a g) ⊎ IsMarked marks g
 
--- at is where the walk stands, and the marks are behind it
+-- the walk is at this header, and the marks are those of the headers before it
 pub record Walked (a : List ℕ) (marks : List Bool) (at : ℕ) : Type 0 where
   pub sized : length marks ≡ length a / 16
   pub each : (k : ℕ) → get_or marks k false ≡ true → IsInRootChain a (k * 16) × IsInside a (k * 16)
@@ -40,7 +40,7 @@ module _ (a : List ℕ) where
     }
 
   module _ (marks : List Bool) (at : ℕ) (w : Walked a marks at) where
-    -- where the walk ends, all is marked
+    -- if the walk ends, all is marked
     module _ (s : (¬ IsInside a at) ⊎ IsMarked marks at) where
       settled : (g : ℕ) → IsInside a g → IsDone a marks at g → IsMarked marks g
       settled g i (inl e) = elim s [ inl n ↦ absurd (n (subst (IsInside a) e i)) | inr m ↦ subst (IsMarked marks) (sym e) m ]
@@ -52,11 +52,11 @@ module _ (a : List ℕ) where
       along (suc n) h x i = settled h i (w.closed (x.0 / 16) h (along n x.0 x.1 x.2.0)
           (subst (λ y. IsNext a y h) (sym (cleared_at a (root a) n x.0 x.1)) x.2))
 
-      -- where the walk stands outside or at a mark, the marks are those of the root's chain
+      -- if the walk is outside or at a mark, the marks are those of the root's chain
       pub all_marked : AreMarks a (IsInRootChain a) marks
       all_marked = record { sized = w.sized; each = w.each; all = λ h c i. along c.0 h c.1 i }
 
-    -- the header where the walk stands is marked, and the walk goes on to the header after it
+    -- the walk's header is marked, and the walk goes on to the header after it
     module _ (v : IsVolumeImage a) (i : IsInside a at) (fits : at / 16 < length marks) (after : ℕ) (is : after ≡ next a at) where
       clean : cleared at ≡ at
       clean = let c = w.here i in cleared_at a (root a) c.0 at c.1
@@ -66,7 +66,7 @@ module _ (a : List ℕ) where
       moves g (inr (inl n)) = inr (inl n)
       moves g (inr (inr m)) = inr (inr (still_set marks (at / 16) (g / 16) fits m))
 
-      -- the header where the walk stands gets a mark, and the walk goes on to the header after it
+      -- the walk's header gets a mark, and the walk goes on to the header after it
       pub steps : Walked a (set marks (at / 16) true) after
       steps = record {
         sized = length-set marks (at / 16) true ∙ w.sized;

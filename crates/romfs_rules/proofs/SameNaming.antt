@@ -1,4 +1,4 @@
--- Members of one name, by their numbers. Of two headers in a chain one comes after the other
+-- Members with the same name, by their numbers. Of two headers in a chain one comes after the other
 -- (one_follows), and so do their numbers (forth, back), so a climb along next numbers that notes by
 -- classes notes the headers with the name of a lower one (noted_right, noted_whole, same_names).
 use Rattle.std.proofs.Common.{◌≡◌, ◌≢◌, ◌∙◌, sym, ap, subst, ℕ, zero, suc, ◌*◌, ◌/◌, ◌<◌, ◌⊎◌, inl, inr, List, [], length, get_or, Bool, true, false, Option, Some, None, IsSome, bytes_eq, codes, if◌then◌else◌, refl, arith}
@@ -38,7 +38,7 @@ module _ (a : List ℕ) where
   in_chain_too d {h = h} c (next_one n) = (suc c.0, (h, c.1, n))
   in_chain_too d {h = h} c (later n x) = in_chain_too d (suc c.0, (h, c.1, n)) x
 
-  -- one header stands at each position of a chain
+  -- one header is at each position of a chain
   pub one_at : (d n h g : ℕ) → IsAt a d n h → IsAt a d n g → h ≡ g
   one_at d zero h g x y = x.0 ∙ sym y.0
   one_at d (suc n) h g x y = x.2.1 ∙ ap (next a) (one_at d n x.0 y.0 x.1 y.1) ∙ sym y.2.1
@@ -59,7 +59,7 @@ module _ (a : List ℕ) where
     | inr (inr l) ↦ inr (later_follows d y.0 x.0 g h l y.1 x.1)
   ]
 
-  -- a header in a chain stands at a multiple of 16
+  -- a header in a chain is at a multiple of 16
   pub linked_clear : (h : ℕ) → IsLinked a h → h / 16 * 16 ≡ h
   linked_clear h l = cleared_in_chain a l.dir h l.stands.in_chain
 
@@ -91,8 +91,7 @@ module _ (a : List ℕ) where
       linked : (k : ℕ) → get_or set k false ≡ true → IsLinked a (k * 16)
       linked k m = let p = r.each k m in let s = standing a (k * 16) p.0 in record { inside = p.1; dir = s.0; stands = s.1 }
 
-  -- the number of the header after one, where it lies inside, is how many of the set stand before
-  -- it
+  -- the number of the header after one, if it lies inside, is how many of the set are before it
   pub next_number : {heads : List ℕ} {set : List Bool} {h : ℕ} → AreNumbered a heads set → IsLinked a h → (after : ℕ)
       → after ≡ next a h → after ≢ 0 → IsInside a after → IsNextNumber a heads h (rank set (after / 16))
   next_number {heads} {set} {h} n l after e z i =
@@ -180,7 +179,7 @@ keeps a h q n i d e =
 some_name : (o : Option (List ℕ)) (q : List ℕ) → o ≡ Some q → IsSome o
 some_name o q e = rw e refl
 
--- what is known of the headers in chains, where the root's is in none but its own: all of them, each at its number
+-- what is known of the headers in chains, if the root's is in none but its own: all of them, each at its number
 pub record IsOrdered (a heads : List ℕ) (set : List Bool) : Type 0 where
   pub numbered : AreNumbered a heads set
   pub alone : ¬ IsElsewhere a (root a)
@@ -214,7 +213,7 @@ module _ (a heads : List ℕ) (set : List Bool) (o : IsOrdered a heads set) wher
     upper_named : kept_name a (get_or heads upper 0) ≡ Some called
     lower_named : kept_name a (get_or heads lower 0) ≡ Some called
 
-  -- those of a header and of one of its name, which one chain leads on to
+  -- the numbers of a header and of one with its name, which one chain leads on to
   record Namesakes (h : ℕ) : Type 0 where
     upper : ℕ
     lower : ℕ
@@ -256,7 +255,7 @@ module _ (a heads : List ℕ) (set : List Bool) (o : IsOrdered a heads set) wher
                 (one_follows a d h g y.in_chain x.in_chain (λ z. omega arith));
           }
 
-  -- where no two headers have one name, none has the name of another
+  -- if no two headers have the same name, none has the name of another
   pub none_alike : AreNamesApart (λ i. kept_name a (get_or heads i 0)) (length heads) → HaveSameNames a []
   none_alike w = record {
     each = λ h x. absurd (let l = x.1 in omega arith);
@@ -270,7 +269,7 @@ module _ (a heads : List ℕ) (set : List Bool) (o : IsOrdered a heads set) wher
   }
 
 -- the headers in chains by their numbers: which leads on to which, their classes by name, and those noted that one of the same class
--- stands before or behind
+-- comes before or after
 pub record AreClimbed (a heads : List ℕ) (set : List Bool) (noted : List Bool) : Type 0 where
   pub order : IsOrdered a heads set
   pub next : List ℕ
@@ -309,7 +308,7 @@ module _ (a heads : List ℕ) (set noted : List Bool) (w : AreClimbed a heads se
   over d h q e (inl x) = (kept a h q e).0 x.1
   over d h q e (inr x) = (kept a h q e).2 x
 
-  -- in the chain of one directory, with one name
+  -- in the chain of one directory, with the same name
   share_name : (i y : ℕ) → AreNamesakes a heads set w.order i y → (d : ℕ) → IsOpened a d → IsInChain a d (get_or heads i 0)
       → IsInChain a d (get_or heads y 0) → HasSameName a (get_or heads i 0)
   share_name i y n d opened x z =

@@ -1,6 +1,7 @@
--- Headers and their slots. All that a field or a hard link names stands at a multiple of 16
--- (cleared_root and those like it), so a set by slots loses nothing: a mark says what its set is of
--- (marked, clear_gap), also of two joined (united_marks) and with one more (one_more).
+-- Headers and their slots. All that a field or a hard link names is at a multiple of 16
+-- (cleared_root and those like it), so a set by slots loses nothing: a mark says whether a header
+-- is in its set (marked, clear_gap), also of two joined (united_marks) and with one more
+-- (one_more).
 use Rattle.std.proofs.Common.{◌≡◌, ◌∙◌, sym, ap, get_or, set, true, false, IsTrue, subst, ℕ, zero, suc, ◌*◌, ◌/◌, ◌<◌, ◌≤◌, ◌↔◌, ◌⊎◌, inl, inr, List, Bool, length, Some, None, refl, arith}
 use Rattle.std.proofs.lemmas.Bool.{true≢false}
 use Rattle.std.specs.Option.{option_map_or}
@@ -12,7 +13,7 @@ use Rattle.romfs_sets.specs.Sets.{IsClear, IsUnion}
 use Rattle.romfs_sets.proofs.Marks.{was_set}
 use Rattle.romfs_rules.specs.Marks.{HasSlot, IsVolumeImage, IsMarked, AreMarks}
 
--- the root's header stands at a multiple of 16
+-- the root's header is at a multiple of 16
 pub cleared_root : (a : List ℕ) → cleared (root a) ≡ root a
 unfolding root
 cleared_root a = elim (text_at a HEAD_SIZE) as (λ o. cleared (option_map_or (text_end HEAD_SIZE) o 0)
@@ -29,12 +30,12 @@ twice_cleared n = omega arith
 pub inside_root : (a : List ℕ) → IsVolumeImage a → IsInside a (root a)
 inside_root a v = (omega arith, v.inside)
 
--- a header at some position of a chain stands at a multiple of 16
+-- a header at some position of a chain is at a multiple of 16
 pub cleared_at : (a : List ℕ) (d n h : ℕ) → IsAt a d n h → cleared h ≡ h
 cleared_at a d zero h x = rw (x.0) (omega arith)
 cleared_at a d (suc n) h x = rw (x.2.1) (omega arith)
 
--- a header in a chain stands at a multiple of 16
+-- a header in a chain is at a multiple of 16
 pub cleared_in_chain : (a : List ℕ) (d h : ℕ) → IsInChain a d h → cleared h ≡ h
 cleared_in_chain a d h c = cleared_at a d c.0 h c.1
 
@@ -43,12 +44,12 @@ pub inside_opened : (a : List ℕ) → IsVolumeImage a → (d : ℕ) → IsOpene
 inside_opened a v d (at_root e) = rw e (inside_root a v)
 inside_opened a v d (below o c k i t) = i
 
--- an opened directory stands at a multiple of 16
+-- an opened directory is at a multiple of 16
 pub cleared_opened : (a : List ℕ) (d : ℕ) → IsOpened a d → cleared d ≡ d
 cleared_opened a d (at_root e) = rw e (cleared_root a)
 cleared_opened a d (below {d = c} o k p i t) = cleared_in_chain a c d k
 
--- a header on a destination chain stands at a multiple of 16
+-- a header on a destination chain is at a multiple of 16
 pub cleared_destination : (a : List ℕ) {h g : ℕ} → IsDestination a h g → cleared g ≡ g
 cleared_destination a (here {h = h} l) = twice_cleared (spec a h)
 cleared_destination a (there l d) = cleared_destination a d
@@ -57,25 +58,25 @@ cleared_destination a (there l d) = cleared_destination a d
 pub slot_inside : (a : List ℕ) (slot : ℕ) → root a / 16 ≤ slot → slot < length a / 16 → IsInside a (slot * 16)
 slot_inside a slot l m = let c = cleared_root a in (omega arith, omega arith)
 
--- a header may stand at each slot from the root's on
+-- a header may be at each slot from the root's on
 slot_at : (a : List ℕ) (slot : ℕ) → root a / 16 ≤ slot → slot < length a / 16 → HasSlot a (slot * 16)
 slot_at a slot l m = record { inside = slot_inside a slot l m; aligned = omega arith }
 
--- a header may stand at each slot of a set that is behind the root's
+-- a header may be at each slot of a set that is after the root's
 pub slot_behind : (a : List ℕ) (set : List Bool) (from slot : ℕ) → length set ≡ length a / 16 → root a < from * 16
     → from ≤ slot → slot < length set → HasSlot a (slot * 16)
 slot_behind a set from slot s b l h = slot_at a slot (omega arith) (omega arith)
 
--- a header may stand where the root's does
+-- a header may be at the root's place
 pub root_slot : (a : List ℕ) → IsVolumeImage a → (h : ℕ) → h ≡ root a → HasSlot a h
 root_slot a v h e = rw e (record { inside = inside_root a v; aligned = cleared_root a })
 
--- a header has a mark exactly where it is one of those that the marks are of
+-- a header has a mark exactly if it is in the marked set
 pub marked : (a : List ℕ) (P : ℕ → Type 0) (marks : List Bool) (h : ℕ) → AreMarks a P marks → cleared h ≡ h → IsInside a h
     → IsMarked marks h ↔ P h
 marked a P marks h m c i = (λ x. subst P c (m.each (h / 16) x).0, λ p. m.all h p i)
 
--- the mark of the root's header says whether it is one of those that the marks are of
+-- the mark of the root's header says whether it is in the marked set
 pub root_marked : {a : List ℕ} {P : ℕ → Type 0} {marks : List Bool} → IsVolumeImage a → AreMarks a P marks → (flag : Bool) (h : ℕ)
     → h ≡ root a → flag ≡ get_or marks (h / 16) false → IsTrue flag ↔ P (root a)
 root_marked {a} {P} {marks} v m flag h e f =
@@ -83,7 +84,7 @@ root_marked {a} {P} {marks} v m flag h e f =
     let g : flag ≡ get_or marks (root a / 16) false = f ∙ ap (λ x. get_or marks (x / 16) false) e in
     (λ x. t.0 (sym g ∙ x), λ p. g ∙ t.1 p)
 
--- a run of slots at which no header is of P
+-- a run of slots at which no header is in P
 pub record IsGap (a : List ℕ) (P : ℕ → Type 0) (low high : ℕ) : Type 0 where
   pub rising : low ≤ high
   pub none : (k : ℕ) → low ≤ k → k < high → IsInside a (k * 16) → ¬ P (k * 16)
@@ -97,7 +98,7 @@ clear_gap {marks = marks} m l c = record {
       true≢false (sym (subst (λ x. get_or marks x false ≡ true) e (m.all (k * 16) p i)) ∙ c.each k n o));
 }
 
--- a set joined with another is the set of what is of either
+-- a set joined with another is the set of what is in either
 pub united_marks : {a : List ℕ} {P Q : ℕ → Type 0} {one other both : List Bool} → AreMarks a P one
     → AreMarks a Q other → IsUnion one other both → AreMarks a (λ h. Q h ⊎ P h) both
 united_marks m n u = record {

@@ -1,6 +1,6 @@
--- Which headers are opened, are members and are reached, by the chains that they stand in, the
--- root's or others: each is said exactly (opened, some_member, reached), so that the sets of
--- headers in chains decide it.
+-- Which headers are opened, are members and are reached, by the chains that they are in, the root's
+-- or others: each is said exactly (opened, some_member, reached), so the sets of headers in chains
+-- decide it.
 use Rattle.std.proofs.Common.{◌≡◌, ◌≢◌, ℕ, zero, suc, ◌⊎◌, inl, inr, ◌↔◌, List, Bool, true, false, not, IsTrue, refl, subst}
 use Rattle.std.proofs.lemmas.Bool.{cases_eq}
 use Rattle.romfs_format.specs.Fields.{root}

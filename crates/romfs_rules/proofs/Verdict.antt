@@ -1,6 +1,6 @@
 -- Which breach is named first: on a header the rules are tried by number (one_tried, first_broken), the headers upward by slot (scan_more,
--- asked_next, scan_all). The first breach is below the root, inside, or past the end (breach_..); else the depth is checked
--- (fault_by_depth, kept_by_depth), and at last the attributes (fault_by_trailer, sound_by_trailer).
+-- asked_next, scan_all). The first breach is below the root, inside, or past the end (breach_..); otherwise the depth is checked
+-- (fault_by_depth, kept_by_depth), and finally the attributes (fault_by_trailer, sound_by_trailer).
 use Rattle.std.proofs.Common.{◌≡◌, ◌∙◌, sym, subst, ℕ, ◌+◌, ◌*◌, ◌/◌, ◌<◌, ◌≤◌, ◌↔◌, ◌⊎◌, inl, inr, List, length, Bool, true, false, get_or, Option, Some, None, refl, arith, lit<, lit≤}
 use Rattle.std.proofs.lemmas.Bool.{cases_order, cases_lt, false≢true}
 use Rattle.romfs_format.specs.declared.rule.Rule.{Rule}
@@ -168,7 +168,7 @@ before s r q p hs hr (inl l) = let e = header_stage s hs in let f = header_stage
 before s r q p hs hr (inr x) = x.1
 
 module _ (a : List ℕ) where
-  -- a reached header stands at a multiple of 16
+  -- a reached header is at a multiple of 16
   pub reached_cleared : (h : ℕ) → IsReached a h → cleared h ≡ h
   reached_cleared h r = elim ((reached a h).0 r) [
     | inl e ↦ rw e (cleared_root a)
@@ -228,14 +228,14 @@ module _ (profile : Profile) (a : List ℕ) (h : ℕ) where
     ];
   }
 
-  -- a rule that a header breaks is the first, where it keeps those before it
+  -- a rule that a header breaks is the first, if it keeps those before it
   pub first_broken : (r : Rule) (n : ℕ) → rule_number r ≡ n → IsHeaderRule r → KeepsBefore profile a h n
       → BreaksHeader profile a r h → IsFirstRule profile a h r
   first_broken r n e x k b = record { rule = x; broken = b; before = subst (λ m. KeepsBefore profile a h m) (sym e) k }
 
 -- a scan over the slots, upward
 module _ (profile : Profile) (a : List ℕ) (v : IsVolumeImage a) where
-  -- where the root's header stands elsewhere the scan ends there
+  -- if the root's header is elsewhere, the scan ends there
   root_first : (p : ℕ) → KeepsBelow profile a p → root a ≤ p → IsElsewhere a (root a) → p ≡ root a
   root_first p k l e = elim (cases_order p (root a)) [
     | inl q ↦ q
@@ -244,7 +244,7 @@ module _ (profile : Profile) (a : List ℕ) (v : IsVolumeImage a) where
         (inr ((root_elsewhere a (root a) refl).0 e)))
   ]
 
-  -- where the headers below a slot and the one at it keep these rules, those below the next slot do
+  -- if the headers below a slot and the one at it keep these rules, those below the next slot do
   pub scan_more : (slot : ℕ) → KeepsBelow profile a (slot * 16) → KeepsHeaderRules profile a (slot * 16)
       → KeepsBelow profile a ((slot + 1) * 16)
   scan_more slot k h = record {
@@ -255,7 +255,7 @@ module _ (profile : Profile) (a : List ℕ) (v : IsVolumeImage a) where
     ];
   }
 
-  -- the headers of a run of slots behind the root's that are not reached keep these rules
+  -- the headers of a run of slots after the root's that are not reached keep these rules
   pub scanned_to : {low high : ℕ} → root a < low * 16 → high ≤ length a / 16 → IsGap a (IsInSomeChain a) low high
       → IsGap a (IsTarget a) low high → KeepsBelow profile a (low * 16) → KeepsBelow profile a (high * 16)
   scanned_to {low} {high} r h chains targets k = over_to (λ n. KeepsBelow profile a (n * 16)) low high
@@ -298,7 +298,7 @@ module _ (profile : Profile) (a : List ℕ) (v : IsVolumeImage a) where
   none_below : KeepsBelow profile a (root a)
   none_below = record { keeps = λ h s l. let i = s.inside.0 in absurd (omega arith) }
 
-  -- the fault of a header is the first inside the image, where those below it keep these rules
+  -- the fault of a header is the first inside the image, if those below it keep these rules
   pub at_slot : (f : ImageFault) (h : ℕ) → IsAsked a h → KeepsBelow profile a h
       → IsFirstAt profile a h f → IsFirstInside profile a f.rule f.place
   at_slot f h s k x = subst (IsFirstInside profile a f.rule) (sym x.place) (record { slot = s.slot; rule = x.rule; below = k })
@@ -307,7 +307,7 @@ module _ (profile : Profile) (a : List ℕ) (v : IsVolumeImage a) where
   pub at_root : (f : ImageFault) (h : ℕ) → h ≡ root a → IsFirstAt profile a h f → IsFirstInside profile a f.rule f.place
   at_root f h e = at_slot f h (asked_root h e) (rw e none_below)
 
-  -- where the root's header keeps these rules, all below the slot after it do
+  -- if the root's header keeps these rules, all below the slot after it do
   pub root_kept : (slot place : ℕ) → place ≡ root a → slot ≡ place / 16 + 1 → KeepsHeaderRules profile a place
       → KeepsBelow profile a (slot * 16)
   root_kept slot place t e k =
@@ -322,7 +322,7 @@ module _ (profile : Profile) (a : List ℕ) (v : IsVolumeImage a) where
   pub scan_all : (slot : ℕ) → length a / 16 ≤ slot → KeepsBelow profile a (slot * 16) → KeepsBelow profile a (length a)
   scan_all slot m k = record { keeps = λ h s l. k.keeps h s (let c = s.aligned in let i = s.inside.1 in omega arith) }
 
--- the header is reached, and stands before the root's
+-- the header is reached, and is before the root's
 abbrev pub IsReachedBelow : List ℕ → ℕ → Type 0
 IsReachedBelow a h = IsReached a h × IsBeforeRoot a h
 
@@ -358,7 +358,7 @@ module _ (profile : Profile) (a : List ℕ) (below above : Option ℕ) (lb : IsL
     high : (h : ℕ) → IsReached a h → root a ≤ h
     high h r = elim (cases_lt h (root a)) [ inl l ↦ absurd (no_least (IsReachedBelow a) below h lb none (r, l)) | inr m ↦ m ]
 
-    -- where none stands before the root's, the first breach inside the image is the first of all
+    -- if none is before the root's, the first breach inside the image is the first of all
     pub breach_inside : (r : Rule) (p : ℕ) → IsFirstInside profile a r p → IsFirstBreach profile a r p
     breach_inside r p f = record {
       rule = f.rule.rule;
@@ -384,8 +384,8 @@ module _ (profile : Profile) (a : List ℕ) (below above : Option ℕ) (lb : IsL
       beyond : (s : Rule) (q : ℕ) → IsHeaderRule s → BreaksHeader profile a s q → IsReachedAbove a q
       beyond s q hs b = let o = breach_reached a profile q s hs b in (o, (high q o, far s q hs b))
 
-      -- where none stands before, and those inside keep these rules, the least past the end is the
-      -- first breach
+      -- if none is before, and those inside keep these rules, the least past the end is the first
+      -- breach
       pub breach_above : (p : ℕ) → above ≡ Some p → IsFirstBreach profile a Outside p
       breach_above p e = record {
         rule = (lit≤ tt, lit< tt);
@@ -396,7 +396,7 @@ module _ (profile : Profile) (a : List ℕ) (below above : Option ℕ) (lb : IsL
         ];
       }
 
-      -- where those inside keep these rules and no reached header is outside, all headers keep them
+      -- if those inside keep these rules and no reached header is outside, all headers keep them
       pub no_breach : above ≡ None → KeepsAllHeaderRules profile a
       no_breach e = record { keeps = λ s q hs b. no_least (IsReachedAbove a) above q la e (beyond s q hs b) }
 
@@ -420,7 +420,7 @@ module _ (profile : Profile) (b : List ℕ) (v : IsVolume b) where
   }
 
   module _ (k : KeepsAllHeaderRules profile (image b)) where
-    -- where all keep these rules, the least header that is too deep is the fault of the image
+    -- if all keep these rules, the least header that is too deep is the fault of the image
     pub fault_by_depth : (deep : Option ℕ) (p : ℕ) → IsLeast (BreaksHeader Usual (image b) TooDeep) deep → deep ≡ Some p
         → IsFault profile b TooDeep p
     fault_by_depth deep p d e = record {
@@ -439,7 +439,7 @@ module _ (profile : Profile) (b : List ℕ) (v : IsVolume b) where
           ]);
     }
 
-    -- where all keep these rules, and no header is too deep, the image breaks no rule but that of
+    -- if all keep these rules, and no header is too deep, the image breaks no rule but that of
     -- attributes
     pub kept_by_depth : (deep : Option ℕ) → IsLeast (BreaksHeader Usual (image b) TooDeep) deep → deep ≡ None → KeepsToDepth profile b
     kept_by_depth deep d e = record {
@@ -450,7 +450,7 @@ module _ (profile : Profile) (b : List ℕ) (v : IsVolume b) where
           (λ q m x. omega arith);
     }
 
--- the fault of an image by its attributes, where it breaks no rule before
+-- the fault of an image by its attributes, if it breaks no rule before
 module _ (profile : Profile) (b : List ℕ) (k : KeepsToDepth profile b) where
   -- that of a trailer that is broken
   pub fault_by_trailer : (p : ℕ) → Breaks profile b Attributes p → IsFault profile b Attributes p
@@ -473,7 +473,7 @@ module _ (profile : Profile) (b : List ℕ) (k : KeepsToDepth profile b) where
       last_first p x q y (inr (e, inl l)) = let i = x.2 in let j = y.2 in omega arith
       last_first p x q y (inr (e, inr z)) = let m = z.1 in omega arith
 
-  -- none where that rule is kept too
+  -- none if that rule is kept too
   pub sound_by_trailer : ((p : ℕ) → ¬ Breaks profile b Attributes p) → IsSound profile b
   sound_by_trailer n = record {
     keeps = by_part (λ s. (q : ℕ) → ¬ Breaks profile b s q)

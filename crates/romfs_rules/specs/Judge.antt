@@ -73,7 +73,7 @@ pub record KeepsToDepth (profile : Profile) (b : List ℕ) : Type 0 where
   pub keeps : (r : Rule) (p : ℕ) → rule_number r < rule_number Attributes
       → ¬ Breaks profile b r p
 
--- the fault of b, whatever its attributes; none if it breaks no rule but theirs
+-- the fault of b, apart from its attributes; none if it breaks no rule but theirs
 abbrev pub IsFaultToDepth : Profile → List ℕ → Option ImageFault → Type 0
 IsFaultToDepth profile b fault =
     MatchOption fault (KeepsToDepth profile b) (λ f. IsFault profile b f.rule f.place)

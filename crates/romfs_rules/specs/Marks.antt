@@ -8,7 +8,7 @@ use Rattle.romfs_format.specs.Chains.{IsInChain, IsDotted, IsOpened}
 use Rattle.romfs_format.specs.Rules.{IsNamesake}
 
 -- the accessible bytes of an image that keeps the volume rules: the root's header lies in them,
--- behind the volume header
+-- after the volume header
 pub record IsVolumeImage (a : List ℕ) : Type 0 where
   pub small : length a < 2 ^ 32
   pub behind : 2 * HEAD_SIZE ≤ root a
@@ -50,7 +50,7 @@ pub record IsElsewhere (a : List ℕ) (h : ℕ) : Type 0 where
   pub opened : IsOpened a dir
   pub in_chain : IsInChain a dir h
 
--- the root's header does
+-- the root's header is
 abbrev pub HasRootElsewhere : List ℕ → Type 0
 HasRootElsewhere a = IsElsewhere a (root a)
 

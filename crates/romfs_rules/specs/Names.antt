@@ -16,12 +16,12 @@ kept_name a h = if h == root a then None else unless_dotted (name a h)
 abbrev pub kept_names : List ℕ → List ℕ → ℕ → Option (List ℕ)
 kept_names a heads i = kept_name a (get_or heads i 0)
 
--- what names are mixed to, of the numbers below n that have one
+-- the hashes of names, for the numbers below n that have one
 pub record AreNameHashes (name : ℕ → Option (List ℕ)) (n : ℕ) (hashes : List ℕ) : Type 0 where
   pub level : length hashes ≡ n
   pub each : (k : ℕ) (q : List ℕ) → k < n → name k ≡ Some q → slice_index hashes k ≡ name_hash q
 
--- each that is marked and has a name has it alone
+-- a marked number with a name is the only one with that name
 abbrev pub HaveTheirsAlone : (ℕ → Option (List ℕ)) → ℕ → List Bool → Type 0
 HaveTheirsAlone name n told =
     (k : ℕ) (q : List ℕ) → k < n → get_or told k false ≡ true → name k ≡ Some q
@@ -31,6 +31,6 @@ HaveTheirsAlone name n told =
 abbrev pub AreClassesOf : List ℕ → List ℕ → List ℕ → Type 0
 AreClassesOf a heads class = AreClasses (kept_names a heads) (length heads) class
 
--- no two headers have one name
+-- no two headers have the same name
 abbrev pub HaveNamesApart : List ℕ → List ℕ → Type 0
 HaveNamesApart a heads = AreNamesApart (kept_names a heads) (length heads)

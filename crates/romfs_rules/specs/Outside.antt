@@ -44,13 +44,14 @@ abbrev pub lesser : Option ℕ → ℕ → ℕ
 lesser None word = word
 lesser (Some least) word = if nat_le least word then least else word
 
--- what is found after is the least of what was found before and of what both W and Q hold of
+-- what is found after is the least of what was found before and of the headers that both W and Q
+-- hold for
 pub record Notes (W Q : ℕ → Type 0) (before after : Option ℕ) : Type 0 where
   pub is : (h : ℕ) → after ≡ Some h → (before ≡ Some h) ⊎ (W h × Q h)
   pub old : (h : ℕ) → before ≡ Some h → (g : ℕ) × (after ≡ Some g) × (g ≤ h)
   pub new : (h : ℕ) → W h → Q h → (g : ℕ) × (after ≡ Some g) × (g ≤ h)
 
--- the same on both sides of the image, of what W holds of
+-- the same on both sides of the image, for the headers that W holds for
 abbrev pub NotesOnBoth : List ℕ → (ℕ → Type 0) → Outside → Outside → Type 0
 NotesOnBoth a W before after =
     Notes W (IsBeforeRoot a) before.below after.below

@@ -31,8 +31,8 @@ pub record IsPlainEnd (a : List ℕ) (g : ℕ) : Type 0 where
   pub no_directory : kind a g ≢ Directory
   pub body : HasPlainBody a g text
 
--- the member h with this name breaks no rule by its own bytes, and ends right where it leads as a
--- hard link
+-- the member h with this name breaks no rule by its own bytes, and as a hard link leads directly to
+-- its end
 pub record IsPlainMember (a : List ℕ) (h : ℕ) (text : List ℕ) : Type 0 where
   pub good : ¬ IsBadName text
   pub body : HasPlainBody a h text
@@ -52,7 +52,7 @@ abbrev pub HasFields : List ℕ → ℕ → Head → Type 0
 HasFields a h head = (head.next ≡ next a h) × (head.kind ≡ kind a h) × (head.spec ≡ spec a h)
     × (head.size ≡ size a h)
 
--- it is plain, and this is what a walk goes on by
+-- it is plain, and this is what a walk needs to go on
 pub record IsFound (a : List ℕ) (w : Folder) (h : ℕ) (found : Found) : Type 0 where
   pub plain : IsPlainHeader a w h
   pub mixed : (q : List ℕ) → name a h ≡ Some q → found.hash ≡ name_hash q
@@ -63,9 +63,9 @@ pub record IsFound (a : List ℕ) (w : Folder) (h : ℕ) (found : Found) : Type 
 abbrev pub folder : ℕ → ℕ → Folder
 folder h n = record { header = h; names = n }
 
--- how far a walk down from the root has come: the headers that it has come to have a mark, these
--- directories are still to come, and of the chain that it goes along last it has passed these
--- headers, whose names are mixed to this
+-- how far a walk down from the root has come: the headers that it has reached have a mark, these
+-- directories are still to come, and of the chain that it follows last it has passed these headers,
+-- whose names have these hashes
 pub record WalkState : Type 0 where
   pub marks : List Bool
   pub todo : List Folder
@@ -93,25 +93,25 @@ pub record PassesFront (a : List ℕ) (w : Folder) (old new : WalkState) : Type 
   pub inside : (v : Folder) → Contains new.todo v → Contains old.todo v ⊎ IsInside a v.header
   pub few : length new.todo ≤ length old.todo + length new.heads
 
--- the full chain was, and the hashes are those of its names
+-- the full chain was passed, and the hashes are those of its names
 pub record PassesChain (a : List ℕ) (w : Folder) (old new : WalkState) : Type 0 where
   pub front : PassesFront a w old new
   pub hashed : AreNameHashes (kept_names a new.heads) (length new.heads) new.hashes
   pub whole : (i h : ℕ) → IsAt a w.header i h → i < length new.heads
 
--- and no two of its members have one name
+-- and no two of its members have the same name
 pub record PassesFolder (a : List ℕ) (w : Folder) (old new : WalkState) : Type 0 where
   pub chain : PassesChain a w old new
   pub apart : HaveNamesApart a new.heads
 
--- a header of the chain of w, which joins the directories after it, if it is one
+-- a header of the chain of w, which is added to the directories to come if it is one
 pub record AddsFolder (a : List ℕ) (w : Folder) (at : ℕ) (before after : List Folder) : Type 0 where
   pub comes : at ≢ root a → Opens a at → Contains after (folder at (w.names + 1))
   pub waits : (v : Folder) → Contains before v → Contains after v
   pub inside : (v : Folder) → Contains after v → Contains before v ⊎ IsInside a v.header
   pub few : length after ≤ length before + 1
 
--- no rule behind the volume header is broken
+-- no rule after those of the volume header is broken
 pub record KeepsPlainly (a : List ℕ) : Type 0 where
   pub headers : KeepsAllHeaderRules Usual a
   pub depth : (h : ℕ) → ¬ BreaksHeader Usual a TooDeep h

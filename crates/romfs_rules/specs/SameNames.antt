@@ -12,7 +12,7 @@ pub record HaveSameNames (a found : List ℕ) : Type 0 where
   pub all : (h : ℕ) → HasSameName a h → Contains found h
   pub rising : (i j : ℕ) → i < j → j < length found → get_or found i 0 < get_or found j 0
 
--- if the root's header is in no chain but its own, and headers that rise in any case
+-- the same if the root's header is in no chain but its own; in any case headers that rise
 pub record HaveSameNamesIfAlone (a found : List ℕ) : Type 0 where
   pub names : ¬ IsElsewhere a (root a) → HaveSameNames a found
   pub rising : (i j : ℕ) → i < j → j < length found → get_or found i 0 < get_or found j 0

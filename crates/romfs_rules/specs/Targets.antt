@@ -1,4 +1,4 @@
--- Sets of headers that hold each hard link's destination with it.
+-- Sets of headers that contain the destinations of their hard links.
 use Rattle.std.specs.Prelude.{◌≡◌, ℕ, ◌*◌, ◌⊎◌, List, length, Bool, true, false, get_or}
 use Rattle.romfs_format.specs.Fields.{IsInside}
 use Rattle.romfs_format.specs.Links.{IsHardLink, destination, IsDestination, IsTarget}
@@ -8,7 +8,7 @@ use Rattle.romfs_rules.specs.Marks.{IsMarked, AreMarks}
 abbrev pub AreTargets : List ℕ → List Bool → Type 0
 AreTargets a marks = AreMarks a (IsTarget a) marks
 
--- where h leads has a mark, or lies outside
+-- the header that h leads to has a mark, or lies outside
 abbrev pub IsFollowed : List ℕ → List Bool → ℕ → Type 0
 IsFollowed a marks h = IsMarked marks (destination a h) ⊎ ¬ IsInside a (destination a h)
 

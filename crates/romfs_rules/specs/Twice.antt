@@ -10,7 +10,7 @@ use Rattle.romfs_rules.specs.Leads.{IsTheOne}
 abbrev pub AreTwice : List ℕ → List ℕ → Type 0
 AreTwice a found = IsListOf a (IsLinkedTwice a) found
 
--- k is the slot of the header to, which is there and lies in the image
+-- k is the slot of the header to, which exists and lies in the image
 abbrev pub IsSlotOf : List ℕ → Option ℕ → ℕ → Type 0
 IsSlotOf a to k = (h : ℕ) × (to ≡ Some h) × IsInside a h × (k ≡ h / 16)
 

@@ -46,7 +46,7 @@ pub(crate) fn find_chains<A: Allocator + Copy>(
     })
 }
 
-// Marks the headers of the root's chain, up to one that lies outside or comes again.
+// Marks the headers of the root's chain, up to one that lies outside or repeats.
 fn mark_root_chain<A: Allocator + Copy>(alloc: A, volume: &Volume) -> Result<SlotSet<A>, AllocError>
     ensures { IfOk result (AreInRootChain volume.now.bytes.now) }
 {
@@ -97,7 +97,7 @@ fn seeds<A: Allocator + Copy>(
 // A walk over chains.
 #[derive(Drop)]
 struct ChainWalk<A: Allocator> {
-    /// The headers that it has come to.
+    /// The headers that it has reached.
     marks: SlotSet<A>,
     /// Those that are still to come.
     todo: Vec<u32, A>,

@@ -48,7 +48,7 @@ struct Waiting {
 // A walk down from the root.
 #[derive(Drop)]
 struct Descent<A: Allocator> {
-    /// The headers that it has come to.
+    /// The headers that it has reached.
     marks: SlotSet<A>,
     /// Those that are still to come.
     todo: Vec<Waiting, A>,

@@ -6,7 +6,7 @@
 //! 3 -> 3 -> 1 -> 1 -> file      the third walk stops at the first 1, and ends at a file
 //! ```
 //!
-//! A walk that comes to its own number goes round, and ends nowhere. Each header is passed once.
+//! A walk that comes to its own number is in a loop, and ends nowhere. Each header is passed once.
 
 ghost use Rattle.std.specs.Prelude.{◌≡◌, ℕ, List, ◌+◌, ◌*◌, ◌++◌, [], ◌∷◌, ◌<◌, ◌↔◌, ◌^◌, ◌/◌, length, get_or, replicate, true, false, IsTrue, IfOk};
 ghost use Rattle.romfs_format.specs.Fields.{cleared};
@@ -138,7 +138,7 @@ fn end_of<A: Allocator>(volume: &Volume, from: usize, walks: &mut SlotWords<A>, 
     end_at(volume, at)
 }
 
-// The end of a chain at a header that is no hard link.
+// The end of a chain at a header that is not a hard link.
 fn end_at(volume: &Volume, at: usize) -> End
     requires at { at < 2 ^ 32 }
     requires last { ¬ IsHardLink volume.now.bytes.now at }

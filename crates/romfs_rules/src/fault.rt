@@ -26,17 +26,16 @@ use romfs_held::read::{root_of, word};
 use romfs_rows::trailer_fault;
 use std::alloc::{AllocError, Allocator};
 
-/// The fault of some bytes as an image, under a profile; none if they break no rule of it.
+/// The fault of some bytes as an image, under a profile; none if they break none of its rules.
 ///
-/// That is the first broken rule of the volume header; else, of all broken rules of file headers,
-/// the one at the least place, and there the first; else a path of too many names, at the least
-/// such header; else, under a profile with attributes, a broken trailer, at its start. Fails only
-/// if memory was refused.
+/// That is the first broken rule of the volume header; otherwise, of all broken rules of file
+/// headers, the one at the least place, and the first there; otherwise a path of too many names, at
+/// the least such header; otherwise, under a profile with attributes, a broken trailer, at its
+/// start. Fails only if memory was refused.
 ///
-/// It takes n log n steps in headers and one pass over the bytes of the image, whatever they are,
-/// or over those that are kept of it. Beside them it takes at most a byte for each 40 of the image
-/// and 96 for each header that is reached, and then the bytes of a trailer's second part; it keeps
-/// nothing.
+/// It takes n log n steps in headers and one pass over the bytes of any image, or over those that
+/// are kept of it. Beside them it takes at most a byte for each 40 of the image and 96 for each
+/// header that is reached, and then the bytes of a trailer's second part; it keeps nothing.
 pub fn first_fault<A: Allocator + Copy>(
     alloc: A,
     image: &Held<'_>,
@@ -48,7 +47,7 @@ pub fn first_fault<A: Allocator + Copy>(
     fault_with_attributes(alloc, image, profile, fault)
 }
 
-// The fault of an image, whatever its attributes.
+// The fault of an image, apart from its attributes.
 fn fault_to_depth<A: Allocator + Copy>(
     alloc: A,
     image: &Held<'_>,
@@ -87,9 +86,9 @@ fn fault_with_attributes<A: Allocator>(
     Ok(found)
 }
 
-// The fault of an image that keeps the rules of the volume header, from its accessible bytes,
-// whatever its attributes; none if it breaks no other rule. Most images are plainly sound, and then
-// no set is made.
+// The fault of an image that keeps the rules of the volume header, from its accessible bytes, apart
+// from its attributes; none if it breaks no other rule. Most images are plainly sound, and then no
+// set is made.
 fn fault_in<A: Allocator + Copy>(
     alloc: A,
     volume: &Volume,

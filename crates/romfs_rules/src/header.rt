@@ -95,7 +95,7 @@ impl<'h> Header<'h> {
             → IsFirstRuleBelow profile self.now.image self.now.at
             (rule_number Rule.LinkedTwice) result }
     {
-        // a look at a field, by which the proof sees what is known of a header
+        // reads a field, by which the proof knows what holds of a header
         let _ = &self.volume;
         if self.breaks_name_open() {
             return Some(Rule::NameOpen);

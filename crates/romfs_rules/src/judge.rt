@@ -152,7 +152,7 @@ impl<'s, A: Allocator> Sets<'s, A> {
     }
 }
 
-/// The fault of an image that keeps the rules of the volume header, whatever its attributes: its
+/// The fault of an image that keeps the rules of the volume header, apart from its attributes: its
 /// first breach of a rule of file headers, or else its least header that is too deep.
 pub(crate) fn fault_of(header: Option<ImageFault>, deep: Option<u32>) -> Option<ImageFault>
     ensures { (profile : Profile) (b : List ℕ) → IsVolume b → IsHeaderFault profile (image b) header

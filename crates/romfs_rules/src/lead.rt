@@ -29,7 +29,7 @@ pub(crate) fn next_by(volume: &Volume, at: usize, next: u32) -> Option<u32>
     requires next { next ≡ next_at volume.now.bytes.now at }
     ensures { IsTheOne (IsNext volume.now.bytes.now at) result }
 {
-    // the image is named by the clauses alone
+    // only the clauses name the image
     let _ = volume;
     if next == 0 { None } else { Some(next) }
 }

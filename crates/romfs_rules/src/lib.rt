@@ -1,12 +1,12 @@
 //! Which rule of romfs an image breaks.
 //!
-//! [`first_fault`] answers for every list of bytes, whatever a stranger made: directories whose
-//! chains merge, loop or lead anywhere, links to links, names that come twice. It reads a held
-//! image, in full or in part (`romfs_held`). Most images keep every rule, and one walk down from
-//! the root shows it (`plain`, `plain_header`). For all others it collects sets of headers
-//! (`chains`, `same_names`, `twice`, `targets`, `ends`), as a bit for every 16 bytes of the image
-//! or as a rising list (`romfs_sets`); then it scans the reached headers once, upward (`judge`), for
-//! the first rule that each breaks (`header`); then it checks the depth (`depth`), and at last the
+//! [`first_fault`] answers for every list of bytes, however hostile: directories whose chains
+//! merge, loop or lead anywhere, links to links, names that occur twice. It reads a held image, in
+//! full or in part (`romfs_held`). Most images keep every rule, and one walk down from the root
+//! shows it (`plain`, `plain_header`). For all others it collects sets of headers (`chains`,
+//! `same_names`, `twice`, `targets`, `ends`), as a bit for every 16 bytes of the image or as a
+//! rising list (`romfs_sets`); then it scans the reached headers once, upward (`judge`), for the
+//! first rule that each breaks (`header`); then it checks the depth (`depth`), and finally the
 //! attribute trailer (`romfs_rows`). Each walk is a loop, and each visits a header a constant
 //! number of times. What [`first_fault`] promises is `IsFaultOf`, of `romfs_format`.
 //!

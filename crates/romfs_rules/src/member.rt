@@ -100,7 +100,7 @@ fn is_dotted_by(volume: &Volume, at: usize, name: Option<&[u8]>) -> bool
     requires name { option_map (λ n. n.now) name ≡ text_at volume.now.bytes.now (at + HEAD_SIZE) }
     ensures { IsTrue result ↔ IsDotted volume.now.bytes.now at }
 {
-    // the image is named by the clauses alone
+    // only the clauses name the image
     let _ = volume;
     match name {
         None => false,

@@ -1,8 +1,8 @@
 //! Names of headers, as classes of their numbers, for the rule that a directory holds a name once.
 //! Bad names are left to `header`.
 //!
-//! Most names occur once. So the names of all headers are hashed first, and those whose hash occurs
-//! once are left out of the sort that finds equal ones.
+//! Most names occur once. The names of all headers are therefore hashed first, and those whose hash
+//! occurs once are left out of the sort that finds equal ones.
 
 ghost use Rattle.std.specs.Prelude.{◌≡◌, ◌+◌, ◌<◌, ◌≤◌, ◌^◌, ℕ, IfOk, IsTrue, MatchOption, length, get_or, slice_index};
 ghost use Rattle.std.specs.Option.{option_map};
@@ -57,7 +57,7 @@ pub(crate) fn name_classes_of<A: Allocator + Copy>(
     name_classes_by(alloc, volume, heads, &hashes)
 }
 
-/// Whether no two names were mixed to the same, each compared with each.
+/// Whether no two hashes are equal, each compared with each.
 pub(crate) fn have_hashes_apart(hashes: &[u64]) -> bool
     ensures { IsTrue result → (i j : ℕ) → i < length hashes.now → j < length hashes.now
         → slice_index hashes.now i ≡ slice_index hashes.now j → i ≡ j }

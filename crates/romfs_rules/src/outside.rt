@@ -88,7 +88,7 @@ impl<'k, A: Allocator> Model for Known<'k, A> {
 }
 
 impl<'k, A: Allocator> Known<'k, A> {
-    // What is found with the headers more that a header leads to.
+    // What is found when the headers that a header leads to are added.
     #[inline(always)]
     fn note_named(&self, found: Outside, at: usize) -> Outside
         requires { HasSlot self.now at }
@@ -99,8 +99,8 @@ impl<'k, A: Allocator> Known<'k, A> {
         self.note_spec(with_next, at)
     }
 
-    // What is found with the headers more that a header's spec.info leads to. Most lie in the
-    // image, and then it is not asked whether it leads there.
+    // What is found when the headers that a header's spec.info leads to are added. Most lie in the
+    // image, and then whether it leads there is not checked.
     #[inline(always)]
     fn note_spec(&self, found: Outside, at: usize) -> Outside
         requires { HasSlot self.now at }
@@ -142,7 +142,7 @@ impl<'k, A: Allocator> Known<'k, A> {
     }
 }
 
-// What is found with one header more, if there is one.
+// What is found when a header is added, if there is one.
 #[tactic(auto, using(crate::proofs::Reach::notes))]
 #[inline(always)]
 fn note(found: Outside, volume: &Volume, word: Option<u32>) -> Outside

@@ -21,7 +21,7 @@ use romfs_sets::SparseSlots;
 use std::alloc::{AllocError, Allocator};
 use std::marker::Model;
 
-/// How many names are compared with one another, at the most.
+/// How many names are compared with one another, at most.
 const FEW: usize = 16;
 
 /// A directory that is still to come, and how many names lead to it.
@@ -31,7 +31,7 @@ pub(crate) struct Folder {
     pub(crate) names: u32,
 }
 
-/// What a walk goes on by from a plain header.
+/// What a walk needs to go on from a plain header.
 #[derive(Clone, Copy)]
 pub(crate) struct Found {
     /// The hash of its name.
@@ -70,13 +70,13 @@ pub(crate) fn is_plain_image<A: Allocator + Copy>(
 // A walk down from the root. A clause sees how far it has come.
 #[derive(Drop)]
 struct Walk<A: Allocator> {
-    /// The headers that it has come to.
+    /// The headers that it has reached.
     marks: SparseSlots<A>,
     /// The directories that are still to come.
     todo: Vec<Folder, A>,
     /// The headers of the chain that it goes along.
     heads: Vec<u32, A>,
-    /// What their names are mixed to.
+    /// The hashes of their names.
     hashes: Vec<u64, A>,
 }
 
@@ -94,8 +94,8 @@ impl<A: Allocator> Model for Walk<A> {
 }
 
 impl<A: Allocator + Copy> Walk<A> {
-    // Follows the chain of a directory, and says whether each header there is new and plain, and no
-    // two members have the same name.
+    // Follows the chain of a directory, and returns whether each header there is new and plain, and
+    // no two members have the same name.
     fn is_plain_folder(
         &mut self,
         alloc: A,
@@ -113,7 +113,7 @@ impl<A: Allocator + Copy> Walk<A> {
         have_names_apart(alloc, volume, &self.heads, &self.hashes)
     }
 
-    // The same of headers alone, whatever their names.
+    // The same of headers alone, for any names.
     fn is_plain_chain(&mut self, volume: &Volume, folder: Folder) -> Result<bool, AllocError>
         requires inside { IsInside volume.now.bytes.now folder.header }
         requires sized { length self.old.marks ≡ length volume.now.bytes.now / 16 }
@@ -150,7 +150,7 @@ fn is_new<A: Allocator>(volume: &Volume, at: usize, marks: &SparseSlots<A>) -> b
     is_inside(volume, at) && !marks.contains(at / 16)
 }
 
-// Whether no two of these headers have one name.
+// Whether no two of these headers have the same name.
 fn have_names_apart<A: Allocator + Copy>(
     alloc: A,
     volume: &Volume,

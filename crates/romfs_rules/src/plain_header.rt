@@ -1,7 +1,7 @@
 //! Headers that break no rule by their own bytes.
 //!
-//! A plain header must keep a little more than the rules: a hard link ends right where it leads,
-//! and each name is ended, also the root's. A header that is not plain may still be sound.
+//! A plain header must keep a little more than the rules: a hard link leads directly to its end,
+//! and each name is ended, even the root's. A header that is not plain may still be sound.
 
 ghost use Rattle.std.specs.Prelude.{◌≡◌, ◌+◌, ◌<◌, ◌≤◌, ◌↔◌, ◌^◌, length, IsTrue, IfSome, Some};
 ghost use Rattle.romfs_format.specs.declared.limits.TheConstants.{HEAD_SIZE};
@@ -60,7 +60,7 @@ fn opens_by(volume: &Volume, at: usize, head: Head, name: &[u8]) -> bool
     requires text { text_at volume.now.bytes.now (at + HEAD_SIZE) ≡ Some name.now }
     ensures { IsTrue result ↔ Opens volume.now.bytes.now at }
 {
-    // the image is named by the clauses alone
+    // only the clauses name the image
     let _ = volume;
     head.kind == Kind::Directory && !is_dot_name(name)
 }
@@ -84,7 +84,8 @@ fn is_plain(volume: &Volume, folder: Folder, at: usize, head: Head, name: &[u8])
     }
 }
 
-// Whether a member with this name breaks no rule by its own bytes, and ends right where it leads.
+// Whether a member with this name breaks no rule by its own bytes, and as a hard link leads
+// directly to its end.
 #[inline(always)]
 fn is_plain_member(volume: &Volume, at: usize, head: Head, name: &[u8]) -> bool
     requires at { at + HEAD_SIZE ≤ length volume.now.bytes.now }
@@ -140,7 +141,7 @@ fn is_of_data(volume: &Volume, at: usize, head: Head) -> bool
     requires { HasFields volume.now.bytes.now at head }
     ensures { IsTrue result ↔ HasData volume.now.bytes.now at }
 {
-    // the image is named by the clauses alone
+    // only the clauses name the image
     let _ = volume;
     matches!(head.kind, Kind::Regular | Kind::SymLink)
 }

@@ -2,9 +2,9 @@
 //!
 //! Chains may merge and loop, so a header may be in the chains of many directories, and to compare
 //! the names of each chain on its own would be quadratic. But each header leads on to one, in any
-//! chain. So the headers are numbered, equal names are one class (`romfs_sets`), and
-//! `romfs_sets` notes the numbers with a lower one of their class on their way or before them.
-//! If no two names are equal, there is nothing to climb.
+//! chain. The headers are therefore numbered, equal names are one class (`romfs_sets`), and
+//! `romfs_sets` notes the numbers with a lower one of their class on their way or before them. If
+//! no two names are equal, there is nothing to climb.
 
 ghost use Rattle.std.specs.Prelude.{◌+◌, ◌/◌, ◌^◌, ◌<◌, ◌≤◌, ℕ, IfOk, length, get_or};
 ghost use Rattle.romfs_rules.specs.Marks.{HasRootElsewhere};

@@ -88,14 +88,14 @@ pub(crate) fn image_of<'a>(bytes: &Held<'a>, full: usize) -> Held<'a>
     bytes.first(full)
 }
 
-// The sum of what the checksum goes over.
+// The sum of the words that the checksum covers.
 fn front_sum(image: &Held<'_>) -> u32
     ensures { result ≡ word_sum (summed image.now) % 2 ^ 32 }
 {
     sum(image, 0, SUMMED_SIZE.min(image.len()))
 }
 
-// Whether an image begins as each has to.
+// Whether an image begins as each must.
 fn is_magic(bytes: &Held<'_>) -> bool
     requires { HEAD_SIZE ≤ length bytes.now }
     ensures { IsTrue result ↔ StartsWith bytes.now magic }

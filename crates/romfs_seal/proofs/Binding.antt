@@ -1,5 +1,5 @@
--- The root hash binds: what it vouches for is the block of the bytes whose it is, or a twin was met on the way (bound_or_forged); bytes with
--- the same root hash are the same, or have twins (one_root). Of whole bytes it vouches for each block (vouches).
+-- The root hash binds: what it vouches for is the block of the bytes that it belongs to, or a twin was met on the way (bound_or_forged);
+-- bytes with the same root hash are the same, or have twins (one_root). Of whole bytes it vouches for each block (vouches).
 use Rattle.std.proofs.Common.{◌≡◌, ◌≢◌, ◌∙◌, sym, ap, ℕ, zero, suc, ◌+◌, ◌*◌, ◌/◌, ◌%◌, ◌^◌, ◌<◌, ◌≤◌, List, [], ◌∷◌, get_or, refl, arith, inl, inr, ◌⊎◌, ext_get_or}
 use Rattle.std.proofs.lemmas.Bool.{cases_eq, cases_lt}
 use Rattle.devices.specs.declared.algorithm.Algorithm.{Algorithm}
@@ -20,7 +20,7 @@ list_cases (x ∷ xs) (y ∷ ys) =
       | inl same ↦ elim (list_cases xs ys) [ inl rest ↦ inl (cc) | inr not ↦ inr (λ e. not (cc)) ]
     ]
 
--- the digest of a block stands in the level above
+-- the digest of a block is in the level above
 pub digest_is : (a : Algorithm) (h : Hash) (sized : (m : List ℕ) → IsDigest a (h m)) (xs : List ℕ) (n i : ℕ) → i < n
     → digest_at a (block (above a h xs n) (i / fan a)) (i % fan a) ≡ h (block xs i)
 digest_is a h sized xs n i below =

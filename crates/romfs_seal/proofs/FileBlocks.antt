@@ -1,4 +1,5 @@
--- A file's bytes in blocks, and its descriptor: files with one digest are one, or have twins (one_file).
+-- A file's bytes in blocks, and its descriptor: files with the same digest are the same, or have twins
+-- (one_file).
 use Rattle.std.proofs.Common.{◌≡◌, ◌∙◌, sym, ap, subst, ℕ, zero, suc, ◌+◌, ◌-◌, ◌*◌, ◌^◌, ◌<◌, ◌≤◌, List, [], ◌∷◌, ◌++◌, length, take, drop, replicate, refl, arith, inl, inr, ◌⊎◌, append_assoc, length-append}
 use Rattle.std.specs.Int.{to_le_bytes, w64}
 use Rattle.std.proofs.lemmas.Nat.{from_le_bytes-to_le_bytes_8}

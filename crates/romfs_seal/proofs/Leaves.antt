@@ -1,5 +1,5 @@
--- The digests under one of the lowest hash blocks: where there is none, the root hash alone (leaf_none); else those of a block whose digest is
--- kept (leaf_kept).
+-- The digests under one of the lowest hash blocks: if there is none, the root hash alone (leaf_none); otherwise those of a block whose
+-- digest is kept (leaf_kept).
 use Rattle.std.proofs.Common.{◌-◌, ◌≡◌, ◌≢◌, ◌∙◌, sym, ap, subst, ℕ, zero, suc, ◌+◌, ◌*◌, ◌/◌, ◌%◌, ◌^◌, ◌<◌, ◌≤◌, List, ◌++◌, length, take, drop, refl, arith, length-append, length-drop}
 use Rattle.std.proofs.lemmas.List.{take_at, take_all}
 use Rattle.devices.specs.declared.algorithm.Algorithm.{Algorithm}

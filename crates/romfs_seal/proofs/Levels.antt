@@ -1,4 +1,4 @@
--- A level and the one above it: each digest stands at its place (digest_at-above), and the level above is whole blocks (blocks-above).
+-- A level and the one above it: each digest is at its place (digest_at-above), and the level above is whole blocks (blocks-above).
 use Rattle.std.proofs.Common.{◌≡◌, ◌∙◌, sym, ap, subst, ℕ, zero, suc, ◌+◌, ◌-◌, ◌*◌, ◌<◌, ◌≤◌, List, ◌++◌, length, take, drop, replicate, get_or, arith, append_assoc, length-append, length-take-le, length-drop, inl, inr, slice_index}
 use Rattle.std.proofs.lemmas.List.{take_at, drop_at, drop-drop, drop-take, take-take, take_all, get_or-take, get_or-drop, get_or-replicate, length-replicate}
 use Rattle.std.proofs.lemmas.Bool.{cases_lt}

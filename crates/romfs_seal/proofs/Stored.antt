@@ -1,4 +1,4 @@
--- Where the levels of a tree stand as they are stored: the lowest (lowest_stored), and the one above it (upper_stored).
+-- Where the levels of a tree are stored: the lowest (lowest_stored), and the one above it (upper_stored).
 use Rattle.std.proofs.Common.{◌≡◌, ◌∙◌, sym, ap, ℕ, suc, ◌+◌, ◌*◌, List, ◌++◌, length, take, drop, arith, append_assoc}
 use Rattle.std.proofs.lemmas.List.{take_at}
 use Rattle.std.proofs.Math.Seq.{drop-append-add}
@@ -8,7 +8,7 @@ use Rattle.romfs_seal.proofs.Levels.{blocks-above}
 use Rattle.romfs_seal.proofs.Filled.{length-tree}
 use Rattle.devices.specs.Seal.{lowest_place}
 
--- what stands behind this many bytes
+-- what comes after this many bytes
 behind : (front rest : List ℕ) (n k m : ℕ) → length front ≡ n → take m (drop (n + k) (front ++ rest)) ≡ take m (drop k rest)
 behind front rest n k m long =
     ap (λ j. take m (drop (j + k) (front ++ rest))) (sym long) ∙ ap (λ l. take m l) (drop-append-add front rest k)

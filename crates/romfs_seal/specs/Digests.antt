@@ -1,4 +1,4 @@
--- What SHA-256 and SHA-512 give is a digest (is_digest).
+-- SHA-256 and SHA-512 return digests (is_digest).
 use Rattle.std.proofs.Common.{◌≡◌, ℕ, zero, suc, ◌<◌, List, [], ◌∷◌, ◌++◌, length, arith, slice_index}
 use Rattle.std.specs.Int.{to_be_bytes, w32, w64, byte_at}
 use Rattle.sha2.specs.Sha256.{sha256, initial_hash_256}

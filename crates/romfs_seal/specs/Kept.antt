@@ -1,4 +1,4 @@
--- What is held in memory of a tree, and what one of its lowest hash blocks is good for.
+-- What is held in memory of a tree, and what one of its lowest hash blocks proves.
 use Rattle.std.specs.Prelude.{◌≡◌, ℕ, ◌+◌, ◌-◌, ◌*◌, ◌/◌, ◌^◌, ◌<◌, ◌≤◌, List, length}
 use Rattle.devices.specs.declared.algorithm.Algorithm.{Algorithm}
 use Rattle.devices.specs.Tree.{AreBytes, IsDigest, HasLevels, fan, block, digest_at}
@@ -7,7 +7,7 @@ use Rattle.devices.specs.Vouched.{Vouches}
 use Rattle.devices.specs.Seal.{Seal, lowest_place, kept_len, kept_of, IsTop}
 use Rattle.devices.specs.Read.{IsUnmatched}
 
--- what is held of the tree: the digest is that of its descriptor, and it is that of unmatched bytes
+-- what is held of the tree: its descriptor has the digest, and it is the tree of unmatched bytes
 pub record IsOpened (s : Seal) (levels lowest : ℕ) (kept : List ℕ) : Type 0 where
   pub small : s.size < 2 ^ 63
   pub sized : (m : List ℕ) → IsDigest s.algorithm (s.hash m)
@@ -20,17 +20,17 @@ pub record IsOpened (s : Seal) (levels lowest : ℕ) (kept : List ℕ) : Type 0 
   pub right : (xs : List ℕ) → IsUnmatched s xs → (s.size ≡ length xs)
       × (kept ≡ kept_of s.algorithm s.hash levels (in_blocks xs) (blocks_of (length xs)))
 
--- the first of the blocks whose digests stand in one hash block with this one's
+-- the first of the blocks whose digests are in one hash block with this one's
 abbrev pub first_under : Algorithm → ℕ → ℕ
 first_under a i = fan a * (i / fan a)
 
--- the place behind them
+-- the end of these blocks
 abbrev pub run_end : Algorithm → ℕ → ℕ
 run_end a place = 4096 * (first_under a (place / 4096) + fan a)
 
--- this leaf has the digests of the blocks from this one on: whatever block has the digest at its
--- place there, the digest of the file vouches for it; and it is that of the block of those bytes
--- that are unmatched
+-- this leaf has the digests of the blocks from this one on. The digest of the file vouches for any
+-- block that has the digest at its place there, and this is the digest of the block of the
+-- unmatched bytes
 pub record IsLeaf (s : Seal) (first : ℕ) (leaf : List ℕ) : Type 0 where
   pub long : length leaf ≡ 4096
   pub levels : ℕ

@@ -23,7 +23,7 @@ named s = record {
   digest = s.digest;
 }
 
--- and with it
+-- the seal with its hash
 abbrev pub with_hash : Named → Hash → Seal
 with_hash n h = record {
   image = n.image;

@@ -1,17 +1,17 @@
--- Second preimages: where bytes that are not a file's pass for them, here they are.
+-- Second preimages: they exist if other bytes pass for a file's.
 use Rattle.std.specs.Prelude.{◌≡◌, ◌≢◌, ◌⊎◌, ℕ, zero, suc, ◌/◌, ◌<◌, List, length}
 use Rattle.devices.specs.declared.algorithm.Algorithm.{Algorithm}
 use Rattle.devices.specs.Tree.{Hash, fan, block, blocks_above, above}
 use Rattle.devices.specs.File.{descriptor, in_blocks, blocks_of, root_of}
 use Rattle.devices.specs.Vouched.{Vouches}
 
--- two lists are not one, and have one digest
+-- two lists differ, and have the same digest
 pub record AreTwins (h : Hash) (b c : List ℕ) : Type 0 where
   pub same : h c ≡ h b
   pub other : c ≢ b
 
--- a block with this index was met, and blocks on the way from it to the top: one of them is not
--- what stands there in the tree of n blocks, and has its digest
+-- a block with this index was met, and blocks on the way from it to the top: one of them differs
+-- from the one there in the tree of n blocks, and has the same digest
 unfoldable pub IsForged : (a : Algorithm) (h : Hash) (levels : ℕ) (xs : List ℕ) (n : ℕ)
     (top : List ℕ) (i : ℕ) (b : List ℕ) → Vouches a h levels top i b → Type 0
 unfolding Vouches
@@ -20,7 +20,8 @@ IsForged a h (suc levels) xs n top i b v =
     AreTwins h (block xs i) b
     ⊎ IsForged a h levels (above a h xs n) (blocks_above a n) top (i / fan a) (v.0) (v.2)
 
--- two lists of n blocks, or two of their levels, have at one place two blocks with one digest
+-- two lists of n blocks, or two of their levels, have at one place two different blocks with the
+-- same digest
 unfoldable pub HaveTwins : Algorithm → Hash → ℕ → List ℕ → List ℕ → ℕ → Type 0
 HaveTwins a h zero xs ys n = AreTwins h xs ys
 HaveTwins a h (suc levels) xs ys n =

@@ -9,8 +9,7 @@ use std::alloc::{AllocError, Allocator};
 /// The bytes of a descriptor.
 const DESCRIPTOR_SIZE: usize = 256;
 
-/// The descriptor of a file of this many bytes with this root hash: what its digest is the digest
-/// of.
+/// The descriptor of a file of this many bytes with this root hash. Its digest is the file's.
 pub fn descriptor_of<A: Allocator>(
     alloc: A,
     algorithm: Algorithm,

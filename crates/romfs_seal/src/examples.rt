@@ -32,7 +32,7 @@ pub fn one_block()
         ∷ 0x58 ∷ 0x78 ∷ 0x90 ∷ 0x4D ∷ 0x34 ∷ 0xBA ∷ 0xC9 ∷ 0x7E ∷ [] }
 {}
 
-/// Of a block of zeros and a byte behind it: two blocks, and one of digests.
+/// Of a block of zeros and a byte after it: two blocks, and one of digests.
 pub fn two_blocks()
     ensures { file_digest Sha256 (sha Sha256) 1 (replicate 4096 0 ++ 1 ∷ []) ≡
         0x32 ∷ 0xDB ∷ 0x7C ∷ 0xD9 ∷ 0x21 ∷ 0x17 ∷ 0xAB ∷ 0x6C

@@ -10,12 +10,12 @@ use crate::filling::{fill_block, fill_bytes};
 use crate::{BlockHash, Digest};
 use devices::{Algorithm, Contents, Unread};
 
-/// A file and the file of its tree, with the size and the digest that are reported of it.
+/// A file and the file of its tree, with the reported size and digest.
 pub trait NamedFiles {
-    // What reads of the files may give, and how they are hashed.
+    // What reads from the files may give, and how they are hashed.
     ghost seal: { Self → Seal };
 
-    /// The size that is reported.
+    /// The reported size.
     fn size(&self) -> u64
         ensures { result ≡ (seal self.now).size };
 
@@ -27,13 +27,13 @@ pub trait NamedFiles {
     fn hash(&self, bytes: &[u8]) -> Digest
         ensures { digest_bytes result ≡ (seal self.now).hash bytes.now };
 
-    /// Whether these bytes have the digest that is reported.
+    /// Whether these bytes have the reported digest.
     fn is_described(&self, descriptor: &[u8]) -> bool
         ensures is { IsTrue result → (seal self.now).hash descriptor.now ≡ (seal self.now).digest }
         ensures not { result ≡ false →
             (seal self.now).hash descriptor.now ≢ (seal self.now).digest };
 
-    /// Fills a block with this many bytes of the file, and zeros behind them.
+    /// Fills a block with this many bytes of the file, and zeros after them.
     fn fill_image(&self, block: &mut [u8], count: usize, place: u64) -> Result<(), Unread>
         requires long { length block.old ≡ 4096 }
         requires fits { count ≤ 4096 }
@@ -58,7 +58,7 @@ pub trait NamedFiles {
         IsDigest (seal files).algorithm ((seal files).hash bytes) };
 }
 
-/// Whether the digest of a block stands at this place among some.
+/// Whether the digest of a block is the one at this place in a list of digests.
 pub(crate) fn has_digest<F: NamedFiles>(
     files: &F,
     digests: &[u8],
@@ -82,7 +82,7 @@ pub(crate) fn has_digest<F: NamedFiles>(
     )
 }
 
-/// Whether a digest of this size stands at this place among some.
+/// Whether a digest of this size is the one at this place in a list of digests.
 fn stands_at(digests: &[u8], size: usize, place: usize, digest: &[u8]) -> bool
     requires { size * place + size ≤ length digests.now }
     ensures there { IsTrue result → digest.now ≡ take size (drop (size * place) digests.now) }
@@ -92,7 +92,7 @@ fn stands_at(digests: &[u8], size: usize, place: usize, digest: &[u8]) -> bool
     digest == &digests[at..at + size]
 }
 
-/// Two files, with the size and the digest that are reported.
+/// Two files, with the reported size and digest.
 #[derive(Drop)]
 pub struct Files<C: Contents, D: Contents, H: BlockHash> {
     /// The file.
@@ -101,9 +101,9 @@ pub struct Files<C: Contents, D: Contents, H: BlockHash> {
     pub tree: D,
     /// How they are hashed.
     pub hash: H,
-    /// The digest that is reported.
+    /// The reported digest.
     pub digest: Digest,
-    /// The size that is reported.
+    /// The reported size.
     pub size: u64,
 }
 

@@ -11,7 +11,7 @@ use devices::{Contents, Unread, fill};
 /// The bytes of a block.
 pub(crate) const BLOCK: usize = 4096;
 
-/// Fills a block with this many bytes of a file, and zeros behind them.
+/// Fills a block with this many bytes of a file, and zeros after them.
 pub(crate) fn fill_block<S: Contents>(
     source: &S,
     block: &mut [u8],

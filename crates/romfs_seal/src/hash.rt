@@ -9,15 +9,15 @@ use crate::digest::Digest;
 use devices::Algorithm;
 use sha2::{Digest as Hasher, Sha256, Sha512};
 
-/// A hash: it takes bytes to a digest.
+/// A hash: it maps bytes to a digest.
 pub trait BlockHash {
-    // What fs-verity calls it.
+    // Its name in fs-verity.
     ghost algorithm_of: { Self → Algorithm };
 
     // The digest of these bytes.
     ghost digest_of: { Self → List ℕ → List ℕ };
 
-    /// What fs-verity calls it.
+    /// Its name in fs-verity.
     fn algorithm(&self) -> Algorithm
         ensures { result ≡ algorithm_of self.now };
 

@@ -1,4 +1,4 @@
-//! A file that was opened under its digest, as others see it.
+//! A file that was opened under its digest, as its callers see it.
 
 ghost use Rattle.std.specs.Prelude.{◌≡◌, ◌⊎◌, IfOk, IfErr};
 ghost use Rattle.romfs_seal.specs.declared.opening.SealFault.TheVariants.{Memory};
@@ -6,10 +6,12 @@ ghost use Rattle.romfs_seal.specs.Digests.{sha};
 ghost use Rattle.romfs_seal.specs.Named.{named};
 ghost use Rattle.devices.specs.Honest.{IsTampered};
 
-use crate::files::NamedFiles;
+use crate::files::{Files, NamedFiles};
+use crate::hash::BlockHash;
 use crate::opening::SealFault;
+use crate::recent::Recent;
 use crate::sealed::Sealed;
-use devices::{Contents, Unread};
+use devices::{Algorithm, Contents, Unread};
 use std::alloc::Allocator;
 use std::marker::Model;
 
@@ -41,6 +43,42 @@ impl<F: NamedFiles + Drop, A: Allocator + Copy> SealedImage<F, A> {
     {
         let inner = Sealed::open(alloc, files)?;
         Ok(SealedImage { inner })
+    }
+}
+
+impl<C: Contents + Drop, D: Contents + Drop, A: Allocator> SealedImage<Files<C, D, Recent<A>>, A> {
+    /// The same file without held blocks, so that several threads may read it at the same time.
+    pub fn shared(self) -> SealedImage<Files<C, D, Algorithm>, A>
+        ensures { result ≡ self }
+    {
+        let Sealed {
+            files,
+            levels,
+            lowest,
+            kept,
+        } = self.inner;
+        let Files {
+            image,
+            tree,
+            hash,
+            digest,
+            size,
+        } = files;
+        let files = Files {
+            image,
+            tree,
+            hash: hash.algorithm(),
+            digest,
+            size,
+        };
+        SealedImage {
+            inner: Sealed {
+                files,
+                levels,
+                lowest,
+                kept,
+            },
+        }
     }
 }
 

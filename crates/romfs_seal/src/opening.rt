@@ -1,4 +1,4 @@
-//! What is kept of a tree is read, and held against the digest.
+//! Reading what is kept of a tree, and checking it against the digest.
 
 ghost use Rattle.std.specs.Prelude.{◌≡◌, ◌⊎◌, ◌+◌, ◌*◌, ◌<◌, ◌≤◌, ◌^◌, false, length, IfOk, IfErr, IsTrue};
 ghost use Rattle.devices.specs.Tree.{AreBytes, HasLevels, blocks_above, above, root, tree_blocks};
@@ -21,13 +21,13 @@ const TOO_LARGE: u64 = 1 << 63;
 /// Why a sealed image was not opened.
 #[derive(Clone, Copy, Debug, PartialEq, Eq)]
 pub enum SealFault {
-    /// No file is so large.
+    /// The size is larger than that of any file.
     Length,
     /// A read failed, or was short.
     Unread,
     /// Memory was refused.
     Memory,
-    /// The digest is another one.
+    /// The digest differs.
     Digest,
 }
 
@@ -55,7 +55,7 @@ impl From<Unread> for SealFault {
     }
 }
 
-/// How many levels stand above this many blocks.
+/// How many levels are above this many blocks.
 fn level_count(algorithm: Algorithm, blocks: u64) -> u64
     requires { blocks ≤ 2 ^ 51 }
     ensures has { HasLevels algorithm blocks result }
@@ -68,7 +68,7 @@ fn level_count(algorithm: Algorithm, blocks: u64) -> u64
     }
 }
 
-/// How many blocks this many levels are.
+/// How many blocks this many levels have.
 fn tree_blocks(algorithm: Algorithm, levels: u64, blocks: u64) -> u64
     requires levels { levels ≤ 9 }
     requires blocks { blocks ≤ 2 ^ 51 }
@@ -82,7 +82,7 @@ fn tree_blocks(algorithm: Algorithm, levels: u64, blocks: u64) -> u64
     tree_blocks(algorithm, levels - 1, upper) + upper
 }
 
-/// Where the lowest hash blocks stand.
+/// Where the lowest hash blocks begin.
 fn lowest_place(algorithm: Algorithm, levels: u64, blocks: u64) -> u64
     requires levels { levels ≤ 9 }
     requires blocks { blocks ≤ 2 ^ 51 }
@@ -153,7 +153,7 @@ fn root_over<F: NamedFiles, A: Allocator + Copy>(
     )
 }
 
-/// The digest of the only block; of no bytes zeros.
+/// The digest of the only block; zeros if there are no bytes.
 fn only_digest<F: NamedFiles, A: Allocator>(alloc: A, files: &F) -> Result<Vec<u8, A>, SealFault>
     requires { (F.seal files.now).size ≤ 4096 }
     ensures ok { IfOk result (λ kept.
@@ -230,7 +230,7 @@ fn load_kept<F: NamedFiles, A: Allocator>(
     }
 }
 
-/// Whether the digest that is reported is the one over what is kept of a tree.
+/// Whether the reported digest is the one over what is kept of a tree.
 fn is_top<F: NamedFiles, A: Allocator + Copy>(
     alloc: A,
     files: &F,
@@ -255,15 +255,15 @@ fn is_top<F: NamedFiles, A: Allocator + Copy>(
 }
 
 impl<F: NamedFiles + Drop, A: Allocator + Copy> Sealed<F, A> {
-    /// Opens a file under its digest. Of its tree the level above the lowest hash blocks is read,
-    /// and held against the digest by what is computed of it; the lowest ones are read later. Where
-    /// that is refused, memory was, or the files are not the named ones.
+    /// Opens a file under its digest. The level above the lowest hash blocks of its tree is read,
+    /// and what is computed from it is compared with the digest; the lowest ones are read later. It
+    /// fails only if memory was refused, if a read failed, or if the files are not the named ones.
     ///
-    /// The size is as much part of the digest as the tree: hash blocks that are shown as the data
-    /// of a shorter file have the same root hash.
+    /// The size is part of the digest, as the tree is: hash blocks that are shown as the data of a
+    /// shorter file have the same root hash.
     ///
-    /// Memory is taken for a 16,384th of the bytes, by SHA-512 for a 4,096th; and while the digest
-    /// is computed for a 128th of that, or a 64th.
+    /// Memory is taken for a 16,384th of the bytes, with SHA-512 for a 4,096th; and while the
+    /// digest is computed, for a 128th of that, or a 64th.
     pub fn open(alloc: A, files: F) -> Result<Sealed<F, A>, SealFault>
         ensures ok { IfOk result (λ opened. opened.files ≡ files) }
         ensures err { IfErr result (λ fault. (fault ≡ Memory) ⊎ IsTampered (F.seal files)) }

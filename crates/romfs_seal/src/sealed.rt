@@ -12,20 +12,20 @@ use crate::filling::BLOCK;
 use devices::{Algorithm, Contents, Unread};
 use std::alloc::Allocator;
 
-/// A file whose digest is known. Of its tree the digests of the lowest hash blocks are kept; those
-/// blocks are read when they are needed.
+/// A file whose digest is known. The digests of the lowest hash blocks of its tree are kept; those
+/// blocks are read on demand.
 #[derive(Drop)]
 pub struct Sealed<F: NamedFiles, A: Allocator> {
     pub(crate) files: F,
     pub(crate) levels: u64,
-    // Where the lowest hash blocks stand in the tree's file.
+    // Where the lowest hash blocks begin in the tree's file.
     pub(crate) lowest: u64,
     pub(crate) kept: Vec<u8, A>,
     ghost opened: { IsOpened (F.seal files) levels lowest kept.items },
 }
 
 impl<F: NamedFiles, A: Allocator> Sealed<F, A> {
-    /// Reads the digests of the blocks that stand in one hash block with this one's.
+    /// Reads the digests that are in one hash block with this block's.
     fn load_leaf(&self, block: u64, leaf: &mut [u8]) -> Result<(), Unread>
         requires long { length leaf.old ≡ 4096 }
         requires within { block < blocks_of (F.seal self.now.files).size }
@@ -47,7 +47,7 @@ impl<F: NamedFiles, A: Allocator> Sealed<F, A> {
         }
     }
 
-    /// Reads a block, where it is to lie.
+    /// Reads a block into its final place.
     fn read_whole(
         &self,
         leaf: &[u8],
@@ -109,7 +109,7 @@ impl<F: NamedFiles, A: Allocator> Sealed<F, A> {
         }
     }
 
-    /// Reads bytes whose blocks' digests stand in one hash block.
+    /// Reads bytes whose blocks have their digests in one hash block.
     fn read_run(&self, leaf: &[u8], first: u64, place: u64, room: &mut [u8]) -> Result<(), Unread>
         requires within { place + length room.old ≤ (F.seal self.now.files).size }
         requires from { 4096 * first ≤ place }
@@ -130,7 +130,7 @@ impl<F: NamedFiles, A: Allocator> Sealed<F, A> {
         Ok(())
     }
 
-    /// Reads bytes whose blocks' digests stand in one hash block, which is read before.
+    /// Reads a hash block, and then bytes whose blocks have their digests in it.
     fn read_under(&self, place: u64, room: &mut [u8]) -> Result<(), Unread>
         requires some { place < (F.seal self.now.files).size }
         requires within { place + length room.old ≤ (F.seal self.now.files).size }
@@ -161,13 +161,13 @@ impl<F: NamedFiles, A: Allocator> Sealed<F, A> {
         Ok(())
     }
 
-    /// Puts the bytes from an offset on at the front of the room, and says how many: all that there
-    /// is room for, or all up to the end. `Unread` comes where a read failed or was short, and
-    /// where a block or the hash block over it has not the digest that it should have; what the
-    /// room holds then, nobody says.
+    /// Puts the bytes from an offset on at the front of the room, and returns how many: as many as
+    /// there is room for, or all up to the end. `Unread` if a read failed or was short, or if a
+    /// block or the hash block over it does not have the digest that it should have; the room is
+    /// then unspecified.
     ///
     /// It takes no memory. It reads each block that it touches once, and the lowest hash block over
-    /// them once for each 512 KiB, by SHA-512 for each 256 KiB.
+    /// them once for each 512 KiB, with SHA-512 for each 256 KiB.
     pub fn read_at(&self, room: &mut [u8], offset: u64) -> Result<usize, Unread>
         ensures count { IfOk result (λ count. count ≡ min (length room.old)
             ((F.seal self.now.files).size - offset)) }
@@ -187,9 +187,9 @@ impl<F: NamedFiles, A: Allocator> Sealed<F, A> {
     }
 }
 
-/// What is shown is the file that has the digest, if no read gives, in the place of a block,
-/// another with its digest; what is given are bytes for which the digest vouches. A read fails only
-/// if the files are not the named ones.
+/// The bytes shown are those of the file with the digest, if no read gives, instead of a block,
+/// another with the same digest. Reads give bytes that the digest vouches for. A read fails only if
+/// one of the files does, or if these are not the named ones.
 impl<F: NamedFiles, A: Allocator> Contents for Sealed<F, A> {
     ghost use Rattle.devices.specs.Sources.{sealed};
 
@@ -204,7 +204,7 @@ impl<F: NamedFiles, A: Allocator> Contents for Sealed<F, A> {
     }
 }
 
-/// The first of the blocks whose digests stand in one hash block with this one's.
+/// The first of the blocks whose digests are in one hash block with this one's.
 fn first_of(algorithm: Algorithm, block: u64) -> u64
     requires { block ≤ 2 ^ 51 }
     ensures first { result ≡ first_under algorithm block }
@@ -216,8 +216,7 @@ fn first_of(algorithm: Algorithm, block: u64) -> u64
     }
 }
 
-/// The end of the blocks whose digests stand in one hash block with that of the block at this
-/// place.
+/// The end of the blocks whose digests are in one hash block with that of the block at this place.
 fn end_of_run(algorithm: Algorithm, place: u64) -> u64
     requires { place < 2 ^ 63 }
     ensures end { result ≡ run_end algorithm place }

@@ -1,4 +1,4 @@
-//! What follows of a digest.
+//! What follows from a digest.
 
 ghost use Rattle.std.specs.Prelude.{◌≡◌, ◌⊎◌, ◌<◌, ℕ, List};
 ghost use Rattle.devices.specs.Tree.{AreBlocks, HasLevels, block, root};
@@ -9,7 +9,7 @@ ghost use Rattle.romfs_seal.specs.Twins.{IsForged, AreForged};
 use crate::hash::BlockHash;
 
 /// What the root hash of some blocks vouches for is theirs, or one of the blocks on the way to the
-/// top is another than theirs and has its digest. No premise on the hash.
+/// top differs from theirs and has the same digest. There is no premise on the hash.
 pub fn vouched_is_right_or_forged<H: BlockHash>()
     ensures { (hash : H) (xs : List ℕ) (n levels i : ℕ) (b : List ℕ) → AreBlocks xs n →
         HasLevels (H.algorithm_of hash) n levels → i < n →
@@ -19,8 +19,8 @@ pub fn vouched_is_right_or_forged<H: BlockHash>()
         (root (H.algorithm_of hash) (H.digest_of hash) levels xs n) i b vouched }
 {}
 
-/// Two files with one digest have the same bytes, however many they are; or their descriptors, or
-/// two blocks at one place of their trees, are not the same and have one digest.
+/// Two files with the same digest have the same bytes, however many; or their descriptors, or two
+/// blocks at one place of their trees, differ and have the same digest.
 pub fn one_digest_one_file<H: BlockHash>()
     ensures { (hash : H) (xs ys d : List ℕ) →
         (x : IsFileDigest (H.algorithm_of hash) (H.digest_of hash) xs d) →

@@ -1,6 +1,6 @@
 -- A climb as a whole: the path that its steps are on, and what is still to be entered
 -- (`IsUnderWay`). It begins with no steps (`begins`), skips what was entered, enters and leaves
--- points, and where it is over, all that leads to the point `bottom` has been entered (`ends`).
+-- points, and if it is over, all that leads to the point `bottom` has been entered (`ends`).
 use Rattle.std.proofs.Common.{◌≡◌, ◌∙◌, sym, ap, subst, ℕ, zero, suc, ◌+◌, ◌<◌, ◌≤◌, ◌⊎◌, inl, inr, List, [], ◌∷◌, length, get_or, set, drop, reverse, ◌++◌, Bool, true, false, refl, arith}
 use Rattle.std.proofs.lemmas.List.{get_or-set_other, reverse-append, reverse-reverse}
 use Rattle.std.proofs.Math.Seq.{drop-cons}
@@ -89,7 +89,7 @@ pub no_steps : {X : Type 0} (xs : List X) → length xs ≡ 0 → reverse xs ≡
 no_steps [] e = refl
 no_steps (x ∷ xs) e = absurd (omega arith)
 
--- marks that were kept stay kept where one more is set
+-- marks that were kept stay kept if one more is set
 pub keeps : (before entered : List Bool) (at : ℕ) → at < length entered → AreMarksKept before entered
     → AreMarksKept before (set entered at true)
 keeps before entered at l k = record {
@@ -108,7 +108,7 @@ ahead_cases : {sibling : List ℕ} {from x : ℕ} → Ahead sibling from x → (
 ahead_cases (here l) = inl refl
 ahead_cases (later l a) = inr a
 
--- where `at` is entered, skipping goes on to the next of its list
+-- if `at` is entered, skipping goes on to the next of its list
 pub skips_on : (sibling : List ℕ) (entered : List Bool) (from at : ℕ) → at < length sibling
     → get_or entered at false ≡ true → IsSkipped sibling entered from at
     → IsSkipped sibling entered from (get_or sibling at 0)
@@ -185,7 +185,7 @@ module _ (p : Points) (graph : IsGraph p) (cycle : List ℕ) (bottom : ℕ) (rin
       ];
     }
 
-    -- a climb under way stays so where entered points of the list are skipped
+    -- a climb under way stays so if entered points of the list are skipped
     pub skips : (from at : ℕ) (steps : List Step) (found : Findings) → IsSkipped p.sibling found.entered from at
         → IsUnderWay p cycle rest bottom from steps found → IsUnderWay p cycle rest bottom at steps found
     skips from at steps found s w = record {
@@ -246,7 +246,7 @@ module _ (p : Points) (graph : IsGraph p) (cycle : List ℕ) (bottom : ℕ) (rin
           ]);
         }
 
-    -- where a list is over, the last step is left: the climb goes on at its sibling
+    -- if a list is over, the last step is left: the climb goes on at its sibling
     pub leaves : (at : ℕ) (s : Step) (steps : List Step) (found : Findings) → length p.next ≤ at
         → IsUnderWay p cycle rest bottom at (s ∷ steps) found
         → IsUnderWay p cycle rest bottom (get_or p.sibling s.at 0) steps
@@ -279,7 +279,7 @@ module _ (p : Points) (graph : IsGraph p) (cycle : List ℕ) (bottom : ℕ) (rin
               ];
             }
 
-    -- where the list is over and no step is left, all that leads to `bottom` has been entered
+    -- if the list is over and no step is left, all that leads to `bottom` has been entered
     pub ends : (at : ℕ) (found : Findings) → length p.next ≤ at → IsUnderWay p cycle rest bottom at [] found
         → IsFound p.next p.class cycle rest found
     ends at found past w = record {

@@ -18,12 +18,12 @@ pub bits_length : (n : ℕ) (words : List ℕ) → length (bits n words) ≡ n
 unfolding bits
 bits_length n words = length-map-range_with_len (is_bit words) 0 n
 
--- a slot is in the set where its bit is set
+-- a slot is in the set if its bit is set
 pub bits_at : (n : ℕ) (words : List ℕ) (k : ℕ) → k < n → get_or (bits n words) k false ≡ is_bit words k
 unfolding bits
 bits_at n words k l = get_or-map-range_with_len (is_bit words) 0 n k k false l (omega arith)
 
--- the word of each slot is there, where the words have enough bits for all
+-- each slot has its word, if the words have enough bits for all
 pub is_bit_past : (words : List ℕ) (n : ℕ) → n ≤ length words * 64 → (k : ℕ) → k < n → k / 64 < length words
 is_bit_past words n h k l = omega arith
 
@@ -111,11 +111,11 @@ module _ (words : List ℕ) (slot word : ℕ) (e : word ≡ get_or words (slot /
       ap (λ x. bit_at (get_or words x 0) (k % 64) == 1) q ∙ ap (λ x. bit_at x (k % 64) == 1) (sym e)
       ∙ ap (λ x. x == 1) (sym (rest_from word slot (k % 64) (omega arith) (omega arith)))
 
-  -- where nothing is left, no slot from this one up to the next word is in the set
+  -- if nothing is left, no slot from this one up to the next word is in the set
   pub none_left : rest word slot ≡ 0 → (k : ℕ) → slot ≤ k → k < (slot / 64 + 1) * 64 → is_bit words k ≡ false
   none_left z k l m = in_word k l m ∙ ap (λ x. bit_at x (k % 64) == 1) z ∙ ap (λ x. x == 1) (bit_at-zero (k % 64))
 
-  -- else the lowest bit is the next slot
+  -- otherwise the lowest bit is the next slot
   module _ (some : 0 < rest word slot) where
     lowest : (trailing_zeros w64 (rest word slot) < 64)
         × (bit_at (rest word slot) (trailing_zeros w64 (rest word slot)) ≡ 1)
@@ -234,7 +234,7 @@ module _ (n words : ℕ) (one other : List ℕ) (w : n ≤ words * 64) where
     other_clear = (clear_below from k (omega arith) c).1;
   }
 
-  -- where the union has no slot from one on, neither set has one
+  -- if the union has no slot from one on, neither set has one
   pub none_in : (from : ℕ) → ((k : ℕ) → from ≤ k → k < n → is_bit (joined words one other) k ≡ false)
       → IsNextOfEither (bits n one) (bits n other) from None
   none_in from c = rw (bits_length n one) (clear_below from n (omega arith) c)

@@ -1,6 +1,6 @@
 -- Classes of numbers by their names, in the order of these (IsClassing): each begins as its own
 -- class (first_classed) and takes that of an equal one before it (taken) or keeps its own (begun),
--- up to all (all_classed). Where none was equal, all names differ (all_unlike).
+-- up to all (all_classed). If none was equal, all names differ (all_unlike).
 use Rattle.std.proofs.Common.{◌≡◌, ◌≢◌, ◌∙◌, sym, ap, subst, ℕ, zero, suc, ◌+◌, ◌-◌, ◌<◌, ◌≤◌, ◌⊎◌, inl, inr, List, [], ◌∷◌, ◌++◌, length, get_or, set, Option, Some, refl, arith, length-append, get_or-set_same, get_or-set_other, length-set, true, false}
 use Rattle.std.specs.Ordering.{is_eq}
 use Rattle.std.specs.declared.cmp.Ordering.{Ordering}
@@ -27,7 +27,7 @@ is_tie Equal e = refl
 is_tie Less e = absurd (false≢true e)
 is_tie Greater e = absurd (false≢true e)
 
--- what stands for a name where there is none
+-- the value for a name if there is none
 abbrev pub nothing : NumberedName
 nothing = record { hash = 0; name = record { ref_ptr = (0, 0); now = [] }; number = 0 }
 
@@ -92,12 +92,12 @@ module _ (name : ℕ → Option (List ℕ)) (n : ℕ) (hs : List NumberedName) (
   owned : (m : ℕ) → m < length hs → name (number_at hs m) ≡ Some (name_at hs m)
   owned m l = (by.are.each m nothing l).own
 
-  -- names of one number have one name
+  -- the names of one number are the same
   named_alike : (l m : ℕ) → l < length hs → m < length hs → number_at hs l ≡ number_at hs m
       → name_at hs l ≡ name_at hs m
   named_alike l m p q e = same_Some _ _ (sym (owned l p) ∙ ap name e ∙ owned m q)
 
-  -- where each number is its own class, the first name has its class
+  -- if each number is its own class, the first name has its class
   pub first_classed : (class : List ℕ) → AreNumbersBelow (n + 1) class → IsClassing name n hs class 1
   first_classed class w = record {
     sized = w.sized;
@@ -110,7 +110,7 @@ module _ (name : ℕ → Option (List ℕ)) (n : ℕ) (hs : List NumberedName) (
   }
 
   module _ (class : List ℕ) (i : ℕ) (w : IsClassing name n hs class i) (from : 0 < i) (lt : i < length hs) where
-    -- the name at i has its class, and those before it have theirs still
+    -- the name at i has its class, and those before it still have theirs
     one_classed : (class' : List ℕ) → length class' ≡ n + 1
         → ((k : ℕ) → k < n + 1 → ((m : ℕ) → m < i + 1 → m < length hs → number_at hs m ≢ k) → get_or class' k 0 ≡ k)
         → ((m : ℕ) → m < i → get_or class' (number_at hs m) 0 ≡ get_or class (number_at hs m) 0)
@@ -138,7 +138,7 @@ module _ (name : ℕ → Option (List ℕ)) (n : ℕ) (hs : List NumberedName) (
       ];
     }
 
-    -- a name whose name is that of the one before it takes its class
+    -- a name that is the same as the one before it takes its class
     class_taken : (class' : List ℕ) → numbered_cmp (get_or hs (i - 1) nothing) (get_or hs i nothing) ≡ Equal
         → class' ≡ set class (number_at hs i) (get_or class (number_at hs (i - 1)) 0)
         → IsClassing name n hs class' (i + 1)
@@ -173,7 +173,7 @@ module _ (name : ℕ → Option (List ℕ)) (n : ℕ) (hs : List NumberedName) (
           | inr d ↦ other _ d
         ]
 
-    -- a name of another name than the one before it is the first of its name, and keeps its number
+    -- a name that differs from the one before it is the first of its kind, and keeps its number
     class_begun : numbered_cmp (get_or hs (i - 1) nothing) (get_or hs i nothing) ≢ Equal
         → IsClassing name n hs class (i + 1)
     class_begun ne = one_classed class w.sized
@@ -190,7 +190,7 @@ module _ (name : ℕ → Option (List ℕ)) (n : ℕ) (hs : List NumberedName) (
             let b : number_at hs i < n = (by.are.each i nothing lt).below in
             w.rest (number_at hs i) (omega arith) (λ m p q f. unlike m p (named_alike m i q lt f))
 
-    -- the name at i and the one before it, and how they stand
+    -- the name at i and the one before it, and how they compare
     module _ (x y : NumberedName) (before : x ≡ get_or hs (i - 1) x) (at : y ≡ get_or hs i y)
         (o : Ordering) (stand : o ≡ numbered_cmp x y) where
       is_before : get_or hs (i - 1) nothing ≡ x
@@ -237,7 +237,7 @@ module _ (name : ℕ → Option (List ℕ)) (n : ℕ) (hs : List NumberedName) (
     | inr o ↦ inr o
   ]
 
-  -- after the last name two numbers have one class exactly where they have one name
+  -- after the last name two numbers have the same class exactly if they have the same name
   pub all_classed : (class : List ℕ) (i : ℕ) → length hs ≤ i → IsClassing name n hs class i → AreClasses name n class
   all_classed class i le w = record {
     sized = w.sized;
@@ -299,7 +299,7 @@ module _ (name : ℕ → Option (List ℕ)) (n : ℕ) (hs : List NumberedName) (
             | inr a ↦ d (a k (number_below k x) (named_of k x ∙ sym o.1))
           ]
 
-  -- where no name is that of the one before it, each number with a name has its name alone
+  -- if no name is that of the one before it, each number with a name has its name alone
   pub all_unlike : (i : ℕ) → length hs ≤ i → AreUnlike hs i → AreNamesApart name n
   all_unlike i le w = record {
     each = λ k j q l p e f. elim (found k q l e) [

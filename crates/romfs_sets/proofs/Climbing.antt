@@ -1,5 +1,5 @@
--- One step of a climb: a point is put on the path, or taken off. A lemma each says what then is the
--- lowest of each class (`low_enters`, `low_leaves`), what is noted (`spare_enters`,
+-- One step of a climb: a point is put on the path, or removed from it. One lemma each says what is
+-- then the lowest of each class (`low_enters`, `low_leaves`), what is noted (`spare_enters`,
 -- `lower_enters`), and what is compared (`compared_enters`).
 use Rattle.std.proofs.Common.{◌≡◌, ◌≢◌, ◌∙◌, sym, ap, subst, ℕ, ◌<◌, ◌≤◌, ◌⊎◌, inl, inr, List, ◌∷◌, length, get_or, set, min, max, Bool, true, false, refl, arith}
 use Rattle.std.proofs.lemmas.List.{get_or-set_same, get_or-set_other, length-set}
@@ -11,7 +11,7 @@ pub record Covers (next path : List ℕ) (u : ℕ) : Type 0 where
   pub on : (y : ℕ) → After next u y → On path y
   pub after : (y : ℕ) → On path y → After next u y
 
--- where y comes after x, so does the point that y leads on to
+-- if y comes after x, so does the point that y leads on to
 pub then_next : {next : List ℕ} {x y : ℕ} → After next x y → After next x (get_or next y 0)
 then_next {next = next} (one e) = more e (one refl)
 then_next (more e a) = more e (then_next a)
@@ -92,7 +92,7 @@ module _ (class low path : List ℕ) (u : ℕ) (fits : u < length class) (named 
     ];
   }
 
-  -- with u taken off the path, the lowest of its class is what was lowest without it
+  -- with u removed from the path, the lowest of its class is what was lowest without it
   pub low_leaves : (old : ℕ) → IsLowest class path (length class) (get_or class u 0) old
       → IsLow class low (u ∷ path) → IsLow class (set low (get_or class u 0) old) path
   low_leaves old o w = record {
@@ -105,7 +105,7 @@ module _ (class low path : List ℕ) (u : ℕ) (fits : u < length class) (named 
     ];
   }
 
--- u is put on the path, where v was the lowest of its class, and the higher of both is noted
+-- u is put on the path, v was the lowest of its class, and the higher of both is noted
 pub record IsPut (class path : List ℕ) (u v : ℕ) (noted more : List Bool) : Type 0 where
   pub fits : u < length class
   pub lowest : IsLowest class path (length class) (get_or class u 0) v

@@ -1,6 +1,6 @@
 -- What falls into slots, key by key. Fell says it of the first keys: it holds of none (fell_none)
 -- and with one key more, whether that falls within the slots (fell_within) or beyond them
--- (fell_beyond). After the last, a key that fell alone stands once (all_fell).
+-- (fell_beyond). After the last, a key that fell alone occurs once (all_fell).
 use Rattle.std.proofs.Common.{◌≡◌, ◌∙◌, sym, ap, subst, ℕ, ◌+◌, ◌<◌, ◌≤◌, ◌⊎◌, inl, inr, List, Bool, true, false, length, get_or, refl, arith, get_or-set_other, get_or-set_same, length-set, slice_index}
 use Rattle.std.specs.Prelude.{set}
 use Rattle.std.proofs.lemmas.Bool.{cases_eq, cases_order}
@@ -30,7 +30,7 @@ fell_none keys slots some crowded l m = record {
   many = λ a b n o. absurd (omega arith);
 }
 
--- a set with one slot more has what it had
+-- a set with one slot more has the slots that it had
 keeps : (slots : List Bool) (s t : ℕ) → s < length slots → at slots t ≡ true → at (set slots s true) t ≡ true
 keeps slots s t l h = elim (cases_eq t s) [
   | inl q ↦ ap (at (set slots s true)) q ∙ get_or-set_same slots s true true l
@@ -56,7 +56,7 @@ module _ (keys : List ℕ) (slots : ℕ) (some crowded : List Bool) (i s : ℕ) 
         pick true q = subst X (sym (step.again (sym q))) other
         pick false q = subst X (sym (step.first (sym q))) one
 
-    -- a key whose slot is there has fallen once it is counted
+    -- a key whose slot exists has fallen once it is counted
     pub fell_within : Fell keys slots some' crowded' (i + 1)
     fell_within = record {
       level = ap length step.fell ∙ simp length-set f.level;
@@ -78,7 +78,7 @@ module _ (keys : List ℕ) (slots : ℕ) (some crowded : List Bool) (i s : ℕ) 
       ];
     }
 
-  -- a key whose slot is not there has fallen with no slot changed
+  -- a key whose slot does not exist has fallen with no slot changed
   pub fell_beyond : slots ≤ s → Fell keys slots some crowded (i + 1)
   fell_beyond l = record {
     level = f.level;
@@ -93,7 +93,7 @@ module _ (keys : List ℕ) (slots : ℕ) (some crowded : List Bool) (i s : ℕ) 
     ];
   }
 
--- after the last key, one that fell into its slot alone stands once
+-- after the last key, one that fell into its slot alone occurs once
 pub all_fell : (keys : List ℕ) (slots : ℕ) (some crowded : List Bool) (i : ℕ) → length keys ≤ i → Fell keys slots some crowded i
     → AreCrowded keys crowded
 all_fell keys slots some crowded i l f = record {

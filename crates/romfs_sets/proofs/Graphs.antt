@@ -35,7 +35,8 @@ ahead sibling r (suc n) from x l = elim (cases_lt from (length sibling)) [
 abbrev pub points : {A : Type 0} → Graph A → Points
 points g = record { next = g.next.items; class = g.class.items; first = g.first.items; sibling = g.sibling.items }
 
--- each value of the type `Graph` is a graph: points, classes, and the lists of what leads where
+-- each value of the type `Graph` is a graph: points, classes, and the lists of the points that lead
+-- to each
 pub graph_of : {A : Type 0} (g : Graph A) → IsGraph (points g)
 graph_of g = record {
   few = g.few;

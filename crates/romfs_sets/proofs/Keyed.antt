@@ -1,6 +1,6 @@
 -- Numbers with their names, collected one by one (Holding: from none_named by one_without and
--- one_named to all_held) and put in the order of names (by_name). In that order equal names stand
--- side by side: what stands between two of one name has it too (between).
+-- one_named to all_held) and put in the order of names (by_name). In that order equal names are
+-- adjacent: what is between two with the same name has it too (between).
 use Rattle.std.proofs.Common.{All, Contains, ◌≡◌, ◌∙◌, sym, ap, subst, ℕ, zero, suc, ◌+◌, ◌<◌, ◌≤◌, ◌⊎◌, inl, inr, List, [], ◌∷◌, ◌++◌, length, get_or, false, Option, Some, None, refl, arith}
 use Rattle.std.specs.Cmp.Lexicographic.{slice_cmp}
 use Rattle.std.specs.Ordering.{nat_cmp, is_lt, ordering_reverse}
@@ -37,7 +37,7 @@ module _ (name : ℕ → Option (List ℕ)) (n : ℕ) where
   pub none_named : Holding name n 0 []
   none_named = record { each = λ k d l. absurd (omega arith); every = λ k q l. absurd (omega arith) }
 
-  -- once the numbers below n are gone over, all whose name several have are held
+  -- once the numbers below n were passed over, all that share their name with another are held
   pub all_held : (i : ℕ) (hs : List NumberedName) → i ≡ n → Holding name n i hs → HoldTheShared name n hs
   all_held i hs e w = record { each = w.each; every = λ k q l. w.every k q (omega arith) }
 
@@ -86,7 +86,7 @@ module _ (name : ℕ → Option (List ℕ)) where
 tail_same : (a b : ℕ) (xs ys : List ℕ) → a ∷ xs ≡ b ∷ ys → xs ≡ ys
 tail_same a b xs ys e = cc
 
--- two that compare as equal have one name
+-- two that compare as equal have the same name
 pub one_name : (x y : NumberedName) → numbered_cmp x y ≡ Equal → x.name.now ≡ y.name.now
 one_name x y e = tail_same x.hash y.hash _ _ (exact_bytes (x.hash ∷ x.name.now) (y.hash ∷ y.name.now) e)
 
@@ -101,7 +101,7 @@ neither_less x y p q = pick (slice_cmp nat_cmp x y) refl
         let back : slice_cmp nat_cmp y x ≡ Less = nat_list_cmp_total.antisymm y x ∙ ap ordering_reverse e in
         absurd (let z : is_lt Less ≡ false = subst (λ o. is_lt o ≡ false) back q in cc)
 
--- what stands between two of one name, in the order of names, compares as equal to them
+-- what is between two with the same name, in the order of names, compares as equal to them
 pub between : (name : ℕ → Option (List ℕ)) (n : ℕ) (hs : List NumberedName) → AreInNameOrder name n hs
     → (i j k : ℕ) (d : NumberedName) → i ≤ j → j ≤ k → k < length hs → (get_or hs i d).name.now ≡ (get_or hs k d).name.now
     → numbered_cmp (get_or hs j d) (get_or hs k d) ≡ Equal

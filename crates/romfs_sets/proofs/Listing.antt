@@ -9,7 +9,7 @@ use Rattle.romfs_sets.proofs.Unions.{over_to}
 use Rattle.romfs_sets.specs.Sets.{rank, IsClear}
 use Rattle.romfs_sets.specs.Listed.{AreCollected}
 
--- what stands in a list with one more at its end stands in the list, or is that one
+-- what is in a list with one more at its end is in the list, or is that one
 pub places : (xs : List ℕ) (x k : ℕ) → k < length (xs ++ x ∷ [])
     → ((k < length xs) × (get_or (xs ++ x ∷ []) k 0 ≡ get_or xs k 0))
     ⊎ ((k ≡ length xs) × (get_or (xs ++ x ∷ []) k 0 ≡ x))
@@ -19,7 +19,7 @@ places xs x k l = let s = length_push xs x in elim (cases_order k (length xs)) [
   | inr (inr m) ↦ absurd (omega arith)
 ]
 
--- with one more at the end of a list, that one stands at the old length
+-- with one more at the end of a list, that one is at the old length
 pub last : (xs : List ℕ) (x : ℕ) → get_or (xs ++ x ∷ []) (length xs) 0 ≡ x
 last xs x = get_or_at xs x [] 0 (length xs) refl
 

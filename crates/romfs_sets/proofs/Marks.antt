@@ -13,7 +13,7 @@ missing marked = cond (not marked) 1 0
 unfoldable pub unmarked : List Bool → ℕ
 unmarked marks = sum_by missing marks
 
--- to set a mark where there was none leaves one place fewer without
+-- setting a mark where there was none leaves one place fewer without
 pub marks_fall : (marks : List Bool) (k : ℕ) → k < length marks → get_or marks k false ≡ false → unmarked (set marks k true) + 1
     ≡ unmarked marks
 unfolding unmarked
@@ -34,11 +34,11 @@ no_marks marks n e k = rw e (none n k)
     none (suc n) zero = refl
     none (suc n) (suc k) = none n k
 
--- where a mark is set, there is one
+-- if a mark is set, there is one
 pub newly_set : (marks : List Bool) (k : ℕ) → k < length marks → get_or (set marks k true) k false ≡ true
 newly_set marks k l = get_or-set_same marks k true false l
 
--- a mark stays where one more is set
+-- a mark stays if one more is set
 pub still_set : (marks : List Bool) (k j : ℕ) → k < length marks → get_or marks j false ≡ true → get_or (set marks k true) j false ≡ true
 still_set marks k j l m = elim (cases_eq j k) [
   | inl e ↦ rw e (newly_set marks k l)

@@ -17,7 +17,7 @@ pub words_length : (pages held : List ℕ) → length (words_of pages held) ≡ 
 unfolding words_of
 words_length pages held = length-map-range_with_len (word_in pages held) 0 (length pages * 8)
 
--- each word stands in its page
+-- each word is in its page
 pub word_at : (pages held : List ℕ) (w d : ℕ) → w < length pages * 8 → get_or (words_of pages held) w d ≡ word_in pages held w
 unfolding words_of
 word_at pages held w d l = get_or-map-range_with_len (word_in pages held) 0 (length pages * 8) w w d l (omega arith)
@@ -27,7 +27,7 @@ pub word_at_page : (pages held : List ℕ) (w number : ℕ) → w < length pages
     → get_or (words_of pages held) w 0 ≡ get_or held (number * 8 + w % 8) 0
 word_at_page pages held w number l e = word_at pages held w 0 l ∙ ap (λ n. get_or held (n * 8 + w % 8) 0) (sym e)
 
--- pages are equal where their words are
+-- pages are equal if their words are
 same_words : (pages held others other : List ℕ) → length pages ≡ length others
     → ((w : ℕ) → w < length pages * 8 → word_in pages held w ≡ word_in others other w)
     → words_of pages held ≡ words_of others other
@@ -36,7 +36,7 @@ same_words pages held others other same each = same_lists (words_of pages held) 
     let m : w < length pages * 8 = subst (λ n. w < n) (words_length pages held) l in
     word_at pages held w d m ∙ each w m ∙ sym (word_at others other w d (subst (λ n. w < n * 8) same m)))
 
--- where no page is held, all words are 0
+-- if no page is held, all words are 0
 pub words_none : (count : ℕ) (pages held : List ℕ) → pages ≡ replicate count 0 → held ≡ replicate 8 0
     → words_of pages held ≡ replicate (count * 8) 0
 words_none count pages held e f =
@@ -84,12 +84,12 @@ held_none count pages held e f =
       apart = λ p q l m same. inl (rw e (get_or-replicate count p 0 0 (omega arith)));
     }
 
--- where a word stands in what is held
+-- the place of a word in what is held
 abbrev pub place : List ℕ → ℕ → ℕ
 place pages w = get_or pages (w / 8) 0 * 8 + w % 8
 
 module _ (pages held : List ℕ) (are : ArePages pages held) where
-  -- a word of a page that is held is there
+  -- a word of a page that is held has a place
   pub inside : (w : ℕ) → w < length pages * 8 → get_or pages (w / 8) 0 * 8 + w % 8 < length held
   inside w l = let t = are.there (w / 8) (omega arith) in let s = are.sized in omega arith
 
@@ -102,7 +102,7 @@ module _ (pages held : List ℕ) (are : ArePages pages held) where
     k_is : k ≡ suc (numbered pages)
     k_is = let s = are.sized in omega arith
 
-    -- where not all pages have a number, there is room for one more
+    -- if not all pages have a number, there is room for one more
     pub room : length held + 8 ≤ (length pages + 1) * 8
     room = let s = are.sized in let m = (numbered_more pages page (numbered pages) l e).1 in omega arith
 

@@ -1,6 +1,6 @@
--- How many slots of a set stand before a slot: its rank. It grows by one with each slot of the set,
+-- How many slots of a set are before a slot: its rank. It grows by one with each slot of the set,
 -- so these have different ranks (`rank_once`); within a word the rank grows by the lower bits
--- (`counted`), so counts by word tell every rank (`counts_more`).
+-- (`counted`), so counts by word give every rank (`counts_more`).
 use lib.Count.{ones_step}
 use lib.Arith.{mod-mul}
 use lib.Pow.{pow_pos}
@@ -14,7 +14,7 @@ use Rattle.std.proofs.lemmas.List.{get_or_at, get_or_append_left, length_push}
 use Rattle.romfs_sets.specs.Sets.{is_bit, bits, rank}
 use Rattle.romfs_sets.proofs.Bits.{bits_at}
 
--- no slot of the set stands before slot 0
+-- no slot of the set is before slot 0
 pub rank_zero : (set : List Bool) → rank set 0 ≡ 0
 unfolding rank
 rank_zero set = refl
@@ -38,7 +38,7 @@ rank_step set n = go (get_or set n false) refl
     go true e = let r = rank_member set n e in (omega arith, omega arith)
     go false e = let r = rank_other set n e in (omega arith, omega arith)
 
--- as many of the set, or more, stand before a slot that is `more` further on
+-- as many of the set, or more, are before a slot that is `more` further on
 pub rank_rises : (set : List Bool) (n more : ℕ) → rank set n ≤ rank set (n + more)
 rank_rises set n zero = let e : rank set (n + 0) ≡ rank set n = ap (rank set) (let z : n + 0 ≡ n = omega arith in z) in omega arith
 rank_rises set n (suc more) =
@@ -47,12 +47,12 @@ rank_rises set n (suc more) =
     let s = (rank_step set (n + more)).0 in
     omega arith
 
--- as many of the set, or more, stand before a later slot
+-- as many of the set, or more, are before a later slot
 pub rank_up : (set : List Bool) (m n : ℕ) → m ≤ n → rank set m ≤ rank set n
 rank_up set m n l = let e : rank set (m + (n - m)) ≡ rank set n = ap (rank set)
     (let z : m + (n - m) ≡ n = omega arith in z) in let r = rank_rises set m (n - m) in omega arith
 
--- no more of the set stand before a slot than there are slots before it
+-- no more of the set are before a slot than there are slots before it
 pub rank_few : (set : List Bool) (n : ℕ) → rank set n ≤ n
 rank_few set zero = let z = rank_zero set in omega arith
 rank_few set (suc n) =
@@ -65,7 +65,7 @@ rank_few set (suc n) =
 pub rank_below : (set : List Bool) (k n : ℕ) → get_or set k false ≡ true → k < n → rank set k < rank set n
 rank_below set k n m l = let r = rank_member set k m in let u = rank_up set (k + 1) n (omega arith) in omega arith
 
--- slots of the set with one number are one
+-- slots of the set with the same number are the same
 pub rank_once : (set : List Bool) (j k : ℕ) → get_or set j false ≡ true → get_or set k false ≡ true → rank set j ≡ rank set k → j ≡ k
 rank_once set j k m n e = elim (cases_eq j k) [
   | inl q ↦ q
@@ -131,12 +131,12 @@ module _ (n : ℕ) (words : List ℕ) (word w : ℕ) (e : w ≡ get_or words wor
             omega arith)
       ]
 
-  -- before a slot of a word stand those before the word, and as many as lower bits are set
+  -- before a slot of a word are those before the word, and as many as lower bits are set
   pub counted : (i : ℕ) → i ≤ 64 → word * 64 + i ≤ n → rank (bits n words) (word * 64 + i) ≡ rank (bits n words) (word * 64)
       + count_ones (w % 2 ^ i)
   counted i l m = let r = ranked i l m in let c = count_low i w in omega arith
 
--- for each of the first words, how many of the set stand before it
+-- for each of the first words, how many of the set are before it
 pub record AreCountsSoFar (set : List Bool) (before : List ℕ) : Type 0 where
   pub each : (w : ℕ) → w < length before → get_or before w 0 ≡ rank set (w * 64)
 

@@ -1,6 +1,6 @@
 -- Cycles: how one is found, entered and left. A walk that comes back to where it was has met a
 -- cycle (`meets`); its points are entered one by one (`IsRounding`) until it is whole (`gathered`);
--- with all that leads to it entered, it is taken off the path (`IsClearing`, `left`).
+-- with all that leads to it entered, it is removed from the path (`IsClearing`, `left`).
 use Rattle.std.proofs.Common.{◌≡◌, ◌∙◌, sym, ap, subst, ℕ, zero, suc, ◌+◌, ◌<◌, ◌≤◌, ◌⊎◌, inl, inr, List, [], ◌∷◌, length, get_or, set, drop, reverse, Bool, true, false, refl, arith}
 use Rattle.std.proofs.lemmas.List.{get_or-set_same, get_or-set_other, length-set, get_or_read}
 use Rattle.std.proofs.lemmas.Bool.{cases_eq}
@@ -81,7 +81,7 @@ module _ (next : List ℕ) where
   leads_in entered b c {x = x} l (one e) m = c.each x l (rw e m)
   leads_in entered b c {x = x} l (more e a) m = c.each x l (rw e (leads_in entered b c (rw (← e) (b.each x l)) a m))
 
--- where no points wait, each point that leads to an entered one is entered
+-- if no points wait, each point that leads to an entered one is entered
 pub closed : {next class cycle : List ℕ} {found : Findings} → IsFound next class cycle [] found → IsClosed next found.entered
 closed f = record { each = λ x l m. elim (f.closed x l m) [ inl e ↦ e | inr o ↦ absurd (elim o [ ]) ] }
 
@@ -171,7 +171,7 @@ module _ (next class : List ℕ) (classes : AreBelow class (length next)) (from 
         start = inr (elim w.start [ inl s ↦ subst (λ z. On (at ∷ path) z) s.0 top | inr p ↦ under p ]);
       }
 
-  -- where `at` is entered already, the whole cycle is on the path
+  -- if `at` is entered already, the whole cycle is on the path
   pub gathered : (first : List Bool) (at : ℕ) (xs : List ℕ) (found : Findings) → length found.entered ≡ length next
       → get_or found.entered at false ≡ true → IsRounding next class first from at (reverse xs) found
       → IsGathered next class from xs found
@@ -219,7 +219,7 @@ drop_past [] (suc k) l = refl
 drop_past (x ∷ xs) zero l = absurd (omega arith)
 drop_past (x ∷ xs) (suc k) l = drop_past xs k (omega arith)
 
--- a cycle that is being taken off the path: a class has no lowest, or still a point in the rest
+-- a cycle that is being removed from the path: a class has no lowest, or still a point in the rest
 pub record IsClearing (class low rest : List ℕ) : Type 0 where
   pub sized : length low ≡ length class
   pub each : (c : ℕ) → c < length class → (get_or low c 0 ≡ length class) ⊎ ((x : ℕ) × On rest x × (get_or class x 0 ≡ c))
@@ -231,7 +231,7 @@ clears_none class low cycle w = record {
   each = λ c l. elim ((w.each c l).there) [ inl e ↦ inl e | inr o ↦ inr (get_or low c 0, on_reversed cycle o.0, o.1) ];
 }
 
--- where the class of a point is set to no lowest, that point is cleared
+-- if the class of a point is set to no lowest, that point is cleared
 pub clears_more : (class low cycle : List ℕ) (turn : ℕ) → turn < length cycle
     → get_or class (get_or cycle turn 0) 0 < length class → IsClearing class low (drop turn cycle)
     → IsClearing class (set low (get_or class (get_or cycle turn 0) 0) (length class)) (drop (turn + 1) cycle)
@@ -249,7 +249,7 @@ clears_more class low cycle turn l k w = record {
   ];
 }
 
--- where all points are cleared, no class has a lowest on the path
+-- if all points are cleared, no class has a lowest on the path
 pub clears_all : (class low : List ℕ) → IsClearing class low [] → IsLow class low []
 clears_all class low w = record {
   sized = w.sized;
@@ -269,7 +269,7 @@ pub record IsBlank (next class : List ℕ) (found : Findings) : Type 0 where
   pub none_noted : (x : ℕ) → get_or found.noted x false ≡ false
   pub none_low : (c : ℕ) → c < length class → get_or found.low c 0 ≡ length class
 
--- where nothing has been entered or noted, what has been found is right
+-- if nothing has been entered or noted, what has been found is right
 pub nothing : (next class : List ℕ) (found : Findings) → IsBlank next class found → IsFound next class [] [] found
 nothing next class found b = record {
   lowest = record {
@@ -286,7 +286,7 @@ nothing next class found b = record {
   closed = λ u l m. absurd (clash _ m (b.none_entered (get_or next u 0)));
 }
 
--- a cycle is left, where all that leads to it has been entered
+-- a cycle is left, if all that leads to it has been entered
 pub left : (next class cycle : List ℕ) (found new : Findings) → IsFound next class cycle [] found → Clears class found new
     → IsFound next class [] [] new
 left next class cycle found new f c = record {

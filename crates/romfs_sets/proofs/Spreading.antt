@@ -9,7 +9,7 @@ use Rattle.romfs_sets.specs.Sets.{rank}
 use Rattle.romfs_sets.specs.Words.{Words, word_at, words_by_slot}
 use Rattle.romfs_sets.proofs.Ranks.{rank_below, rank_once}
 
--- there is a number by slot for each slot, whether in the set or not
+-- each slot has a number, whether it is in the set or not
 pub spread_length : (marks : List Bool) (words : List ℕ) → length (words_by_slot marks words) ≡ length marks
 unfolding words_by_slot
 spread_length marks words = length-map-range_with_len (word_at marks words) 0 (length marks)
@@ -32,7 +32,7 @@ module _ (marks : List Bool) (words : List ℕ) (k : ℕ) (m : get_or marks k fa
   pub word_is : get_or (words_by_slot marks words) k 0 ≡ get_or words (rank marks k) 0
   word_is = spread_at marks words k 0 (member_inside marks k m) ∙ ap (λ b. cond b (get_or words (rank marks k) 0) 0) m
 
-  -- to keep a number at the rank of a slot of the set changes the number of that slot alone
+  -- keeping a number at the rank of a slot of the set changes the number of that slot alone
   pub put_is : (v : ℕ) → rank marks k < length words → words_by_slot marks (set words (rank marks k) v)
       ≡ set (words_by_slot marks words) k v
   put_is v f = same_lists (words_by_slot marks (set words (rank marks k) v)) (set (words_by_slot marks words) k v)
@@ -66,7 +66,7 @@ kept_at marks words kept k e m s =
     let member = ap (λ (w : Words). get_or w.slots k false) e ∙ m in
     (member, number_fits marks words k member s)
 
--- where only zeros are kept, each slot has the number 0
+-- if only zeros are kept, each slot has the number 0
 pub spread_none : (marks : List Bool) (words : List ℕ) (n : ℕ) → words ≡ replicate n 0 → words_by_slot marks words
     ≡ replicate (length marks) 0
 spread_none marks words n e = same_lists (words_by_slot marks words) (replicate (length marks) 0)

@@ -48,7 +48,7 @@ pub record AreLists (next first sibling : List ℕ) : Type 0 where
   pub same : (t x : ℕ) → t < length next → Ahead sibling (get_or first t 0) x → get_or next x 0 ≡ t
   pub whole : (x : ℕ) → x < length next → Ahead sibling (get_or first (get_or next x 0) 0) x
 
--- v is the lowest point of the class c on the path, or n where there is none
+-- v is the lowest point of the class c on the path, or n if there is none
 pub record IsLowest (class path : List ℕ) (n c v : ℕ) : Type 0 where
   pub there : (v ≡ n) ⊎ (On path v × (get_or class v 0 ≡ c))
   pub least : (y : ℕ) → On path y → get_or class y 0 ≡ c → v ≤ y
@@ -73,11 +73,11 @@ pub record IsCompared (next class : List ℕ) (entered noted : List Bool) : Type
   pub high : (x y : ℕ) → get_or entered x false ≡ true → After next x y
       → get_or class x 0 ≡ get_or class y 0 → x < y → get_or noted y false ≡ true
 
--- what is noted is rightly so
+-- each noted point has a lower one of its class before or after it
 pub record AreLower (next class : List ℕ) (noted : List Bool) : Type 0 where
   pub each : (x : ℕ) → get_or noted x false ≡ true → HasLower next class x
 
--- the higher of two points is noted, if `old` is one at all, and another than `at`
+-- the higher of two points is noted, if `old` is a point at all, and another than `at`
 pub record IsNoted (before after : List Bool) (n old at : ℕ) : Type 0 where
   pub sized : length after ≡ length before
   pub kept : (x : ℕ) → get_or before x false ≡ true → get_or after x false ≡ true
@@ -107,7 +107,7 @@ pub record Findings : Type 0 where
   pub noted : List Bool
   pub low : List ℕ
 
--- so much the code's value says
+-- what the code's value says
 abbrev pub findings : {A : Type 0} → Found A → Findings
 findings found = record {
   entered = found.entered.items;
@@ -125,7 +125,7 @@ pub record Enters (next class : List ℕ) (at lowest : ℕ) (before after : Find
   pub entered : after.entered ≡ set before.entered at true
   pub noted : IsNoted before.noted after.noted (length next) lowest at
 
--- no class has a lowest on the path any more; what was entered and noted is as it was
+-- no class has a lowest on the path any more; what was entered and noted is unchanged
 pub record Clears (class : List ℕ) (before after : Findings) : Type 0 where
   pub low : IsLow class after.low []
   pub entered : after.entered ≡ before.entered

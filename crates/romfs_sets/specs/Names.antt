@@ -16,7 +16,7 @@ mixed a b = ((a * 0x9e3779b97f4a7c15) % 2 ^ 64 + b) % 2 ^ 64
 abbrev pub ends_mixed : ℕ → List ℕ → ℕ
 ends_mixed n name = mixed (big_number n name) (big_number n (drop (length name - n) name))
 
--- what the first eight and the last eight bytes of a name are mixed to, or those of a shorter name
+-- the hash of a name: its first eight and its last eight bytes, or those of a shorter name, mixed
 abbrev pub name_hash : List ℕ → ℕ
 name_hash name = ends_mixed (min (length name) 8) name
 
@@ -30,11 +30,11 @@ pub record HasItsName (name : ℕ → Option (List ℕ)) (n : ℕ) (h : Numbered
   pub own : name h.number ≡ Some h.name.now
   pub mixed : h.hash ≡ name_hash h.name.now
 
--- no other number below n has the name of this one
+-- no other number below n has the same name as this one
 abbrev pub IsItsAlone : (ℕ → Option (List ℕ)) → ℕ → ℕ → Type 0
 IsItsAlone name n k = (j : ℕ) → j < n → name j ≡ name k → j ≡ k
 
--- numbers below n, each with its name, and among them all whose name several have
+-- numbers below n, each with its name, and among them all that share their name with another
 pub record HoldTheShared (name : ℕ → Option (List ℕ)) (n : ℕ)
     (named : List NumberedName) : Type 0 where
   pub each : All (HasItsName name n) named
@@ -52,7 +52,8 @@ pub record AreNumbersBelow (n : ℕ) (numbers : List ℕ) : Type 0 where
   pub sized : length numbers ≡ n
   pub each : (k : ℕ) → k < n → get_or numbers k 0 ≡ k
 
--- of the numbers up to n, two have one class exactly if both are below n and have one name
+-- of the numbers up to n, two have the same class exactly if both are below n and have the same
+-- name
 pub record AreClasses (key : ℕ → Option (List ℕ)) (n : ℕ) (class : List ℕ) : Type 0 where
   pub sized : length class ≡ n + 1
   pub below : (i : ℕ) → i < n + 1 → get_or class i 0 < n + 1
@@ -61,6 +62,6 @@ pub record AreClasses (key : ℕ → Option (List ℕ)) (n : ℕ) (class : List 
   pub all : (i j : ℕ) (q : List ℕ) → i < n → j < n → key i ≡ Some q → key j ≡ Some q
       → get_or class i 0 ≡ get_or class j 0
 
--- no two numbers below n have one name
+-- no two numbers below n have the same name
 pub record AreNamesApart (name : ℕ → Option (List ℕ)) (n : ℕ) : Type 0 where
   pub each : (i j : ℕ) (q : List ℕ) → i < n → j < n → name i ≡ Some q → name j ≡ Some q → i ≡ j

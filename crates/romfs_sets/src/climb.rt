@@ -2,10 +2,10 @@
 //!
 //! Ways may merge and loop, so following the way of each point would be quadratic. Against their
 //! direction the points are cycles with trees that grow from them; a point lies on another's way if
-//! it is below it in its tree, or in the cycle that it leads to. So a cycle is put on a path, each
-//! tree is climbed from it depth first, and for each class the lowest point on the path is kept; a
-//! new point is compared with that one alone, and the higher of both is noted. Leaving a point
-//! restores what was lowest before it.
+//! it is below it in its tree, or in the cycle that it leads to. Each cycle is therefore put on a
+//! path, each tree is climbed from it depth first, and for each class the lowest point on the path
+//! is kept; a new point is compared with that one alone, and the higher of both is noted. Leaving a
+//! point restores what was lowest before it.
 
 ghost use Rattle.std.specs.Prelude.{◌≡◌, ◌+◌, ◌<◌, ◌^◌, ℕ, true, false, IfOk, length, get_or, set, drop, reverse, []};
 ghost use Rattle.romfs_sets.specs.Climb.{After, AreBelow, Clears, Enters, findings, IsFound, IsLow, IsCycle, IsMet, IsGathered, IsSkipped, AreMarksKept, AreNoted};
@@ -75,7 +75,7 @@ fn skip_entered<A: Allocator>(graph: &Graph<A>, entered: &[bool], from: u32) -> 
     at
 }
 
-// Takes the last point off the path, and gives the next that leads where it does.
+// Removes the last point from the path, and returns the next that leads where it does.
 fn leave<A: Allocator>(graph: &Graph<A>, found: &mut Found<A>, step: Step) -> u32
     requires at { step.at < length graph.now.next.items }
     requires low { length found.old.low.items ≡ length graph.now.next.items }
@@ -166,7 +166,7 @@ fn gather<A: Allocator + Copy>(
     Ok(cycle)
 }
 
-// Takes a cycle off the path.
+// Removes a cycle from the path.
 fn clear<A: Allocator>(graph: &Graph<A>, found: &mut Found<A>, cycle: &[u32])
     requires cycle { IsCycle graph.now.next.items (reverse cycle.now) }
     requires low { IsLow graph.now.class.items found.old.low.items (reverse cycle.now) }

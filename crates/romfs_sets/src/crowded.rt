@@ -1,7 +1,7 @@
 //! Slots into which more than one key falls.
 //!
 //! There are eight slots for each key, and two bits for each slot: whether a key fell into it, and
-//! whether a second one did. A key whose slot has not the second bit fell into it alone.
+//! whether a second one did. A key is alone in its slot if the second bit is not set.
 
 ghost use Rattle.std.specs.Prelude.{◌≡◌, ◌≤◌, ◌<◌, ◌^◌, length, IfOk, IsTrue};
 ghost use Rattle.romfs_sets.specs.Slots.{slot_of, Falls, IsAlone, AreCrowded};

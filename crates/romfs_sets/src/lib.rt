@@ -1,21 +1,21 @@
-//! Sets of headers, ways between them, and equal names: what the check of an image keeps count by.
-//! The numbering of nodes and look-ups of names use it too.
+//! Sets of headers, ways between them, and equal names, for the check of an image. The numbering of
+//! nodes and look-ups of names use them too.
 //!
 //! Headers are at multiples of 16, and each such place is a slot. A [`SlotSet`] says of each slot
 //! whether it is in the set; [`SparseSlots`] does so if few are. The slots of a set have numbers
 //! from 0 upward ([`SlotNumbers`]), by which a word is kept for each ([`SlotWords`]). [`places_of`]
 //! lists the places of a set, rising, and [`is_listed`] looks one up by binary search. A set takes
-//! a bit for each slot; adding one or asking for one is one step, going over a set a step for each
-//! of its slots and one for each 64. Numbers take 4 bytes for each 64 slots.
+//! a bit for each slot; adding or testing one is one step, and a scan takes a step for each slot of
+//! the set and one for each 64. Numbers take 4 bytes for each 64 slots.
 //!
-//! [`note_repeats`] is given points that each lead on to one point and that each have a class. It
-//! notes exactly the points with a lower one of their class before or after them on a way
+//! [`note_repeats`] takes points, each of which leads on to one point and has a class. It notes
+//! exactly the points with a lower one of their class before or after them on a way
 //! (`specs/Climb`). It climbs ways against their direction: n steps, no recursion, 15 bytes for
 //! each point.
 //!
 //! [`seen_once`] finds keys that occur once in a list, and misses few of them, in two steps and
-//! three bytes a key. [`classes`] gives two numbers one class exactly if they have one name
-//! ([`NumberedName`], [`hash_of`]), by a sort of hashes and names: n log n steps, whatever the
+//! three bytes a key. [`classes`] gives two numbers the same class exactly if they have the same
+//! name ([`NumberedName`], [`hash_of`]), by a sort of hashes and names: n log n steps, for any
 //! names.
 #![tactic(auto)]
 

@@ -7,19 +7,18 @@ use byteorder::{BigEndian, ByteOrder};
 use std::alloc::{AllocError, Allocator};
 use std::cmp::Ordering;
 
-/// A name with the number of what has it.
+/// A name, and the number that has it.
 #[derive(Clone, Copy)]
 pub struct NumberedName<'a> {
-    /// What the name's bytes are mixed to ([`hash_of`]).
+    /// The hash of the name's bytes ([`hash_of`]).
     pub hash: u64,
     /// The name.
     pub name: &'a [u8],
-    /// The number of what has it.
+    /// The number that has the name.
     pub number: u32,
 }
 
-/// What the first eight and the last eight bytes of a name are mixed to, or those of a shorter
-/// name.
+/// The hash of a name: its first eight and its last eight bytes mixed, or those of a shorter name.
 pub fn hash_of(name: &[u8]) -> u64
     ensures { result ≡ name_hash name.now }
 {

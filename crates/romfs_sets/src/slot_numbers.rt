@@ -6,7 +6,8 @@
 //! before  0        2        3          the number of the last slot is 3 + 1
 //! ```
 //!
-//! What is kept for the slots of a set is then as long as they are many, and not as all slots are.
+//! A table with an entry for each slot of the set is then as long as the set, and not as long as
+//! all slots.
 
 ghost use Rattle.std.specs.Prelude.{◌≡◌, ◌≤◌, ◌^◌, ◌<◌, length, IfOk};
 ghost use Rattle.romfs_sets.specs.Sets.{rank};

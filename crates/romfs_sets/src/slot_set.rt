@@ -124,7 +124,7 @@ impl<A: Allocator> SlotSet<A> {
         ensures next { IsNextSlot self.now from result }
         ensures small { length self.now < 2 ^ 32 }
     {
-        // a look at a field, by which the proof sees what is known of the set
+        // reads a field, by which the proof knows what holds of the set
         let _ = &self.words;
         self.next_of_either(self, from)
     }

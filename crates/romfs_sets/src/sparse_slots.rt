@@ -9,7 +9,7 @@
 //! held    ........ 1..1.... ......1.
 //! ```
 //!
-//! Number 0 is a page without a slot, for all that are not held. A set takes 4 bytes for each 512
+//! Number 0 is an empty page, for all pages that are not held. A set takes 4 bytes for each 512
 //! slots, and 64 bytes for each 512 of which it has one; room for all is reserved at once, so
 //! adding a slot never fails, but unused room is never touched.
 

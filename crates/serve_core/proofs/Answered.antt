@@ -1,7 +1,7 @@
--- Over what was gathered from images, with sources that hold them, a request may get the reply that is defined over the images
--- (told_alike, told_same), and no other (told_too), and moves the same lookups (moved_alike). From sources that show them it gets that reply, or EIO
--- (told_right). From any sources it gets that reply, if it is no READ
--- (told_others), and else one as long after its header, or EIO (told_front).
+-- Over what was gathered from images, with sources that hold them, a request may get the reply that is defined over the images (told_alike,
+-- told_same), and no other (told_too), and moves the same lookups (moved_alike). From sources that show them it gets that reply, or EIO
+-- (told_right). From any sources it gets that reply, if it is not a READ (told_others), and otherwise one as long after its header, or EIO
+-- (told_front).
 use Rattle.std.proofs.Common.{◌≡◌, ◌≢◌, ◌⊎◌, ◌∙◌, sym, ap, subst, ℕ, List, map, Option, Some, None, refl}
 use Rattle.std.specs.Prelude.{slice_get}
 use Rattle.std.specs.Option.{option_map}

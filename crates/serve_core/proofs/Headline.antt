@@ -24,16 +24,17 @@ use Rattle.reply_pool.specs.Answers.{answering, answering_from}
 use Rattle.reply_pool.specs.Spread.{SpreadsFrom}
 use Rattle.reply_pool.specs.declared.RoundPieces.{RoundPieces}
 use Rattle.serve_loop.specs.declared.done.Done.{Done}
+use Rattle.serve_loop.specs.declared.stream_fault.StreamFault.{StreamFault}
 use Rattle.serve_loop.specs.Serving.{AreRepliesTo, IsRun, Trace}
 use Rattle.serve_loop.proofs.Ends.{served}
 use Rattle.serve_core.specs.declared.terms.Counted.TheVariants.{AllNodes}
 use Rattle.serve_core.specs.declared.stop.Stop.{Stop}
 use Rattle.serve_core.specs.declared.stop.Stop.TheVariants.{Layer, Layers}
-use Rattle.serve_core.specs.Stops.{IsRefusal, stop_of_refusal}
+use Rattle.serve_core.specs.Stops.{IsRefusal, stop_of_refusal, told}
 use Rattle.serve_core.specs.Headline.{AreRightReplies, Call, HasServedAll, HasServedOver, IsAtOnce, IsNotBegun, IsRefusedFor, RunsWithin, ServesBetween, bounds_over}
 use Rattle.serve_core.proofs.Stops.{broken_told, ended_well, many_told, never_broken, never_many, same_stop}
 
--- what workers gave back over one stack answers the stream of any other that is the same
+-- what workers returned over one stack answers the stream of any other that is the same
 pub spread_answers : {A E : Type 0} (first : Session) (over by : Sourced) (s : Session) (stream : List ℕ) (given : Result (RoundPieces A) E)
     → over ≡ by → IfOk given (λ spread. SpreadsFrom by s stream spread)
     → IfOk given (λ spread. (begun : Session) × (x : Sourced) × (answering_from first over ≡ answering_from begun x)
@@ -41,7 +42,7 @@ pub spread_answers : {A E : Type 0} (first : Session) (over by : Sourced) (s : S
 spread_answers first over by s stream (Ok spread) same out = (first, over, refl, subst (λ x. SpreadsFrom x s stream spread) (sym same) out)
 spread_answers first over by s stream (Err e) same out = tt
 
--- where images are refused and no device was called, serving was not begun, and tells why
+-- if images are refused and no device was called, serving was not begun, and its result says why
 pub not_begun : {A : Type 0} (call : Call) (result : Result (Done A) Stop) (stop : Stop) (old : Devices)
     → IsErrAnd result (λ said. said ≡ stop) → IsRefusal call.profile call.images stop → IsNotBegun call result old old
 not_begun call (Ok done) stop old e r = absurd e
@@ -53,14 +54,14 @@ pub as_replied : (first : Session) (stack : Stacked) (messages : List (List ℕ)
 as_replied first stack messages bytes are =
     as_defined (IsReply (answering first stack)) (reply stack) (λ s q put told. told) first (map asked messages) bytes are
 
--- and so are they where the data of each layer are read from a source that holds just its bytes
+-- and so are they if the data of each layer are read from a source that holds just its bytes
 pub as_replied_from : (first : Session) (stack : Stacked) (messages : List (List ℕ)) (bytes : List ℕ)
     → AreRepliesTo (answering_from first (sourced stack (map held stack.layers))) messages bytes → bytes ≡ replies stack first messages
 as_replied_from first stack messages bytes are =
     let by = sourced stack (map held stack.layers) in
     as_defined (IsReply (answering_from first by)) (reply stack) (held_layers_told stack) first (map asked messages) bytes are
 
--- what may be replied to each request goes for those one after another
+-- what may be a reply to each request may be one to those one after another
 pub replies_go : (P Q : Session → Asked → List ℕ → Type 0) → ((s : Session) (q : Asked) (x : List ℕ) → P s q x → Q s q x) → (s : Session)
     (qs : List Asked) (bytes : List ℕ) → AreReplies P s qs bytes → AreReplies Q s qs bytes
 replies_go P Q f s [] bytes r = r
@@ -80,10 +81,10 @@ all_served : {A : Type 0} (first : Session) (stack : Stacked) (done : Done A) (t
 all_served first stack done t s = record { served = s; told = as_replied first stack s.messages t.put s.answered.put }
 
 module _ {A : Type 0} (call : Call) where
-  -- where serving went to its end, all was served over good images
+  -- if serving reached its end, all was served over good images
   pub served_over : (done : Done A) (old new : Devices) → ServesBetween call (Ok done) old new → HasServedAll call done old new
   served_over done old new (inl s) =
-      let (got, put, took, held, r) = s.runs.run in
+      let (got, put, took, held, run) = s.runs.runs.run in
       record {
         stack = s.stack;
         stacked = s.stacked;
@@ -94,7 +95,7 @@ module _ {A : Type 0} (call : Call) where
           held,
           all_served call.first s.stack done _ (served (answering call.first s.stack) (length (nodes s.stack.entries)) call.turns _ done
               (subst (IsRun (answering call.first s.stack) (length (nodes s.stack.entries)) call.turns _)
-              (ended_well done r.ended r.result_is) r.run)),
+              (ended_well done s.runs.ended s.runs.result_is) run)),
         );
       }
   served_over done old new (inr n) = (let e = n.result_is in absurd (cc))
@@ -107,34 +108,35 @@ module _ {A : Type 0} (call : Call) where
     kept = n.kept;
   }
 
-  -- where it stopped for the number of layers, the images were refused for that
+  -- if it stopped for the number of layers, the images were refused for that
   pub many_refused : (count : ℕ) (old new : Devices) → ServesBetween {A = A} call (Err (Layers count)) old new
       → IsRefusedFor call (refusals.Layers count) old new
-  many_refused count old new (inl s) = (let r = s.runs.run.4 in absurd (never_many count r.ended r.result_is))
+  many_refused count old new (inl s) = absurd (never_many count s.runs.ended s.runs.result_is)
   many_refused count old new (inr n) = refused_for (refusals.Layers count) (Layers count) old new n (many_told count)
 
-  -- where it stopped for a broken layer, the images were refused for that
+  -- if it stopped for a broken layer, the images were refused for that
   pub broken_refused : (layer : ℕ) (fault : ImageFault) (old new : Devices) → ServesBetween {A = A} call (Err (Layer layer fault)) old new
       → IsRefusedFor call (refusals.Layer layer fault) old new
-  broken_refused layer fault old new (inl s) = (let r = s.runs.run.4 in absurd (never_broken layer fault r.ended r.result_is))
+  broken_refused layer fault old new (inl s) = absurd (never_broken layer fault s.runs.ended s.runs.result_is)
   broken_refused layer fault old new (inr n) =
       refused_for (refusals.Layer layer fault) (Layer layer fault) old new n (broken_told layer fault)
 
-  -- with no turns the call answers at once
+  -- with no turns the call returns at once
   pub at_once : (result : Result (Done A) Stop) (old new : Devices) → call.turns ≡ 0 → ServesBetween call result old new
       → IsAtOnce call result
-  at_once result old new none (inl s) = inl (s.runs.at_once none)
+  at_once result old new none (inl s) = inl (s.runs.result_is ∙ ap told (s.runs.runs.at_once none))
   at_once result old new none (inr n) = inr (n.stop, n.result_is, n.refused)
 
 -- the four of them, for the goals of the laws
 pub ruleset over_images = (served_over, many_refused, broken_refused, at_once)
 
 -- to prepare images and then to run a stream over their table is to serve it over the images
-pub once_run : {A : Type 0} (call : Call) (stack : Stacked) (result : Result (Done A) Stop) (old new : Devices)
+pub once_run : {A : Type 0} (call : Call) (stack : Stacked) (ended : Result (Done A) StreamFault) (old new : Devices)
     → AreStacked call.profile call.owner call.images stack
-    → RunsWithin call.first (in_memory stack) (bounds_over call.turns AllNodes (in_memory stack)) result old new
-    → ServesBetween call result old new
-once_run call stack result old new stacked runs = inl (record { stack = stack; stacked = stacked; runs = runs })
+    → RunsWithin call.first (in_memory stack) (bounds_over call.turns AllNodes (in_memory stack)) ended old new
+    → ServesBetween call (told ended) old new
+once_run call stack ended old new stacked runs =
+    inl (record { stack = stack; stacked = stacked; runs = record { ended = ended; result_is = refl; runs = runs } })
 
 -- and to refuse them is not to begin
 pub once_refused : {A : Type 0} (call : Call) (refusal : Refusal) (devices : Devices) → AreRefused call.profile call.images refusal

@@ -1,4 +1,4 @@
--- What was gathered from a sound image looks as its accessible bytes do (looks_alike): its paths lead to the same headers, hard links there
+-- What was gathered from a sound image looks like its accessible bytes (looks_alike): its paths lead to the same headers, hard links there
 -- to the same ends, and symbolic links have the same targets.
 use Rattle.std.proofs.Common.{◌≡◌, ◌∙◌, sym, ap, subst, ℕ, ◌≤◌, inl, inr, List, Bool, length, take, drop, Some, arith}
 use Rattle.std.specs.Prelude.{IsSome}

@@ -18,7 +18,7 @@ IsNode entries p = (e : Entry) × IsAmong e entries × (place e ≡ p)
 pub used_node : (entries : List Entry) (n : ℕ) (p : Place) → node_of entries n ≡ Some p → IsNode entries p
 used_node entries n p e = number_listed entries n p e
 
--- what is found is of the list
+-- what is found is in the list
 found_first : (x : Entry) (es : List Entry) (e : Entry) (r : Option Entry) (t : Bool) → (r ≡ Some e → IsAmong e es)
     → (if t then Some x else r) ≡ Some e → IsAmong e (x ∷ es)
 found_first x es e r true f i = inl (let z : Some e ≡ Some x = sym i in cc)

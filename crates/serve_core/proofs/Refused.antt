@@ -1,4 +1,4 @@
--- What was gathered from images is refused as they are (refused_alike): it is sound where they are, and has their faults.
+-- What was gathered from images is refused like them (refused_alike): it is sound if they are, and has their faults.
 use Rattle.std.proofs.Common.{◌≡◌, ◌∙◌, ◌↔◌, sym, ap, subst, ℕ, zero, suc, ◌++◌, inl, inr, List, [], ◌∷◌, length, Option, Some, None, true≢false, refl, arith}
 use Rattle.std.specs.Prelude.{All, ⊤}
 use Rattle.romfs_format.specs.declared.rule.Profile.{Profile}
@@ -51,7 +51,7 @@ module _ (profile : Profile) where
   sound_goes [] (y ∷ ys) g s k d l = absurd g
   sound_goes (x ∷ xs) [] g s k d l = absurd g
 
-  -- where the one list is parted, the other is
+  -- if the one list is parted, the other is
   record IsParted (below above : List (List ℕ)) (x : List ℕ) (ys : List (List ℕ)) : Type 0 where
     pub low : List (List ℕ)
     pub high : List (List ℕ)

@@ -1,5 +1,5 @@
--- Two stacks that differ only in their layers, and there say the same of each node's place, refuse the same requests (refusal_same), and
--- answer the same but for the data of a READ (answer_same).
+-- Two stacks that differ only in their layers, and there say the same about each node's place, refuse the same requests (refusal_same), and
+-- answer the same except for the data of a READ (answer_same).
 use Rattle.std.proofs.Common.{◌≡◌, ◌∙◌, ap, ℕ, List, [], ◌∷◌, ◌||◌, Bool, cond, Option, Some, None, refl}
 use Rattle.std.specs.Prelude.{⊤}
 use Rattle.std.specs.Option.{option_map_or}

@@ -1,4 +1,4 @@
--- What was gathered from sources was gathered from the images that they show (gathered_of), so it is refused for what these are refused for
+-- What was gathered from sources was gathered from the images that they show (gathered_of), so it is refused for the same faults
 -- (shown_refused), and served as they are (shown_stacks, shown_served). Memory shows what it has (from_held, held_shown).
 use Rattle.std.proofs.Common.{subst, List, [], ◌∷◌, ℕ, ◌↔◌, map}
 use Rattle.devices.specs.Sources.{Source, held}

@@ -1,5 +1,5 @@
--- What was gathered from images can be stacked where they can, and then has the same listing, rows and lists (stacked_forth,
--- stacked_back); and both stacks look the same, layer by layer (look_all).
+-- What was gathered from images can be stacked if they can, and then has the same listing, rows and lists (stacked_forth, stacked_back);
+-- and both stacks look the same, layer by layer (look_all).
 use Rattle.std.proofs.Common.{◌≡◌, ◌∙◌, sym, ap, subst, ℕ, suc, inl, inr, List, [], ◌∷◌, length, map, refl, arith}
 use Rattle.std.specs.Prelude.{All}
 use Rattle.stack_model.specs.declared.owner.Owner.{Owner}

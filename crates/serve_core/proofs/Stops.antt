@@ -1,6 +1,6 @@
--- What an end of serving tells: where it is `Ok` so was the stream's; where it is a refusal of images
--- it is that of no stream, and of one refusal alone. Images that were not held are refused (`refused`).
-use Rattle.std.proofs.Common.{◌≡◌, ap, subst, ℕ, List, Result, Ok, Err, IfErr, IsErrAnd, refl}
+-- What an end of serving means: if it is `Ok`, so was the stream's; if it is a refusal of images, it is not that of a stream, and it is
+-- that of one refusal only. Images that were not held are refused (`refused`).
+use Rattle.std.proofs.Common.{◌≡◌, ◌∙◌, sym, ap, subst, ℕ, List, Result, Ok, Err, IfErr, IsErrAnd, refl}
 use Rattle.romfs_format.specs.declared.rule.ImageFault.{ImageFault}
 use Rattle.romfs_format.specs.declared.rule.Profile.{Profile}
 use Rattle.stack_prepare.specs.Layers.{AreRefused}
@@ -10,14 +10,14 @@ use Rattle.serve_loop.specs.declared.done.Done.{Done}
 use Rattle.serve_loop.specs.declared.stream_fault.StreamFault.{StreamFault}
 use Rattle.serve_loop.specs.declared.stream_fault.StreamFault.TheVariants as faults
 use Rattle.serve_core.specs.declared.stop.Stop.{Stop}
-use Rattle.serve_core.specs.declared.stop.Stop.TheVariants.{Layer, Layers, Read, Write}
+use Rattle.serve_core.specs.declared.stop.Stop.TheVariants.{Layer, Layers}
 use Rattle.serve_core.specs.Stops.{IsRefusal, stop_of_fault, stop_of_refusal, told}
 
--- two results that are stops are so of one
+-- two results that are stops have one stop
 pub same_stop : {A : Type 0} {a b : Stop} → (let result : Result (Done A) Stop = Err a in result ≡ Err b) → a ≡ b
 same_stop e = cc
 
--- where serving came to an end, the stream did
+-- if serving came to an end, the stream did
 pub ended_well : {A : Type 0} (done : Done A) (ended : Result (Done A) StreamFault) → Ok done ≡ told ended → ended ≡ Ok done
 ended_well done (Ok other) e = cc
 ended_well done (Err fault) e = absurd (cc)
@@ -62,31 +62,17 @@ broken_told layer broken (refusals.Layer n fault) e = cc
 broken_told layer broken (refusals.Layers count) e = absurd (cc)
 broken_told layer broken refusals.Memory e = absurd (cc)
 
--- a failed read is reported only for a failed read
-pub read_told : {A : Type 0} (ended : Result (Done A) StreamFault) → Err Read ≡ told ended → ended ≡ Err faults.Read
-read_told (Ok done) e = absurd (cc)
-read_told (Err fault) e = ap Err (one fault (same_stop e))
-  where
-    one : (fault : StreamFault) → Read ≡ stop_of_fault fault → fault ≡ faults.Read
-    one faults.Read e = refl
-    one faults.Write e = absurd (cc)
-    one faults.Turns e = absurd (cc)
-    one faults.Memory e = absurd (cc)
-    one (faults.BadLength at len) e = absurd (cc)
-    one (faults.CutOff at) e = absurd (cc)
+-- where a stream ended, serving tells its end
+pub told_well : {A : Type 0} (done : Done A) (ended : Result (Done A) StreamFault) (result : Result (Done A) Stop) → ended ≡ Ok done
+    → result ≡ Ok done → result ≡ told ended
+told_well done (Ok other) result e r = cc
+told_well done (Err fault) result e r = absurd (cc)
 
--- a failed write of a failed write alone
-pub write_told : {A : Type 0} (ended : Result (Done A) StreamFault) → Err Write ≡ told ended → ended ≡ Err faults.Write
-write_told (Ok done) e = absurd (cc)
-write_told (Err fault) e = ap Err (one fault (same_stop e))
-  where
-    one : (fault : StreamFault) → Write ≡ stop_of_fault fault → fault ≡ faults.Write
-    one faults.Write e = refl
-    one faults.Read e = absurd (cc)
-    one faults.Turns e = absurd (cc)
-    one faults.Memory e = absurd (cc)
-    one (faults.BadLength at len) e = absurd (cc)
-    one (faults.CutOff at) e = absurd (cc)
+-- where it stopped, serving tells its fault
+pub told_fault : {A : Type 0} (fault : StreamFault) (ended : Result (Done A) StreamFault) (result : Result (Done A) Stop)
+    → ended ≡ Err fault → IsErrAnd result (λ stop. stop ≡ stop_of_fault fault) → result ≡ told ended
+told_fault fault ended (Ok done) e r = absurd r
+told_fault fault ended (Err stop) e r = ap Err r ∙ ap told (sym e)
 
 -- why images were not held is why they are refused, by each profile
 pub refused : {X Y : Type 0} (profile : Profile) (images : List (List ℕ)) (refusal : Refusal) (ended : Result Y Refusal)

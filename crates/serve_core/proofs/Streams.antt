@@ -1,6 +1,6 @@
--- A stream that is served over what was gathered from images, from sources that hold them, is replied as over the images (replied_same), and
--- served as over them to its end (served_same). From sources that show them it is so with EIO in place of data that they may lack
--- (replied_right, served_right).
+-- A stream that is served over what was gathered from images, from sources that hold them, gets the replies of the images (replied_same),
+-- and is served as over them to its end (served_same). From sources that show them the same holds with EIO instead of data that they may
+-- lack (replied_right, served_right).
 use Rattle.std.proofs.Common.{◌≡◌, ◌∙◌, ap, subst, ℕ, List, [], ◌∷◌, ◌++◌, length, map, refl}
 use Rattle.devices.specs.Sources.{Source}
 use Rattle.fuse_wire.specs.Requests.{Asked, asked}

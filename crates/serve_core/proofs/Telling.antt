@@ -1,6 +1,6 @@
--- Possible replies over what was gathered from images: if data are read from sources that hold the images' bytes, the reply that is
--- defined over the images (told_of), and no other (told_back); from sources that show them that reply, or EIO (right_of). From any sources,
--- that reply, if it is to no READ (others_of); and to a READ one as long after its header, or EIO (front_of).
+-- Possible replies over what was gathered from images: if data are read from sources that hold the images' bytes, the reply that is defined
+-- over the images (told_of), and no other (told_back); from sources that show them that reply, or EIO (right_of). From any sources, that
+-- reply, if it is not to a READ (others_of); and to a READ one as long after its header, or EIO (front_of).
 use Rattle.std.proofs.Common.{◌⊎◌, ◌≡◌, ◌≢◌, ◌∙◌, sym, ap, subst, ℕ, zero, suc, ◌+◌, ◌-◌, ◌<◌, List, [], ◌∷◌, Bool, length, take, drop, map, min, inl, inr, Option, Some, None, refl, arith, length-take, length-drop, if◌then◌else◌}
 use Rattle.std.specs.Prelude.{slice_get}
 use Rattle.std.specs.Option.{option_map, option_map_or, option_and_then}
@@ -35,7 +35,7 @@ use Rattle.serve_core.proofs.Places.{IsSamePlace}
 use Rattle.serve_core.proofs.Nodes.{IsNode, used_node}
 use Rattle.serve_core.proofs.Replied.{refusal_same, node_answer_same}
 
--- what stands in a front part of a list stands in the list
+-- an element of a front part of a list is in the list
 in_front : (xs : List ℕ) (r k n : ℕ) (a : List ℕ) → xs ≡ take r (drop k (take n a)) → (t : ℕ) × (xs ≡ take t (drop k a))
 in_front xs r k n a is =
     let z : (0 + k) ≡ k = omega arith in
@@ -89,11 +89,11 @@ all_shown (x ∷ sources) (ys ∷ images) s (suc k) xs is = all_shown sources im
 all_shown [] (ys ∷ images) s k xs is = absurd s
 all_shown (x ∷ sources) [] s k xs is = absurd s
 
--- as long as a reply, and behind the same header
+-- as long as a reply, and after the same header
 abbrev pub HasFront : List ℕ → List ℕ → Type 0
 HasFront defined bytes = (length bytes ≡ length defined) × (take OUT_HEADER_SIZE bytes ≡ take OUT_HEADER_SIZE defined)
 
--- replies that are as long, behind the same header, may be told alike where their data are read
+-- replies that are as long, after the same header, are possible alike if their data are read
 pub record IsSameFront (d e : List ℕ) : Type 0 where
   pub long : length d ≡ length e
   pub head : take OUT_HEADER_SIZE d ≡ take OUT_HEADER_SIZE e
@@ -284,7 +284,7 @@ module _ (la bs : List (List ℕ)) (es : List Entry) (rs : List (List AttributeR
 
   -- ---- each request
 
-  -- what may be told over what was gathered may be told over the images, and stands in them
+  -- a possible reply over what was gathered is possible over the images, and its data are in them
   module _ (P : Source → List ℕ → Type 0) (sources : List Source) (all : AllHave P sources bs) where
     GoesOver : Op → Type 0
     GoesOver op = AreFrom P (reading_in (by sources) node op) (defined b op)

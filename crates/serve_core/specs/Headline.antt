@@ -18,6 +18,7 @@ use Rattle.reply_model.specs.Streams.{AreReplies, replies}
 use Rattle.reply_pool.specs.Answers.{answering, answering_from}
 use Rattle.serve_loop.specs.declared.done.Done.{Done}
 use Rattle.serve_loop.specs.declared.stream_fault.StreamFault.{StreamFault}
+use Rattle.serve_loop.specs.declared.stream_fault.StreamFault.TheVariants as faults
 use Rattle.serve_loop.specs.Serving.{AreBalances, Trace, Does, IsRun, moves_of}
 use Rattle.serve_loop.specs.Laws.{HasServed}
 use Rattle.serve_core.specs.declared.terms.Counted.{Counted}
@@ -28,13 +29,13 @@ use Rattle.serve_core.specs.Stops.{IsRefusal, told}
 
 -- ---- run
 
--- how a stream is served: in at most this many turns, and lookups are counted of this many of the
--- first nodes
+-- the bounds of serving a stream: at most this many turns, and lookups are counted for this many of
+-- the first nodes
 pub record Bounds : Type 0 where
   pub turns : ℕ
   pub counted : ℕ
 
--- the same, of its parts
+-- the same, from its parts
 abbrev pub bounds : ℕ → ℕ → Bounds
 bounds turns counted = record { turns = turns; counted = counted }
 
@@ -42,7 +43,7 @@ bounds turns counted = record { turns = turns; counted = counted }
 abbrev pub counting_all : Sourced → ℕ → Bounds
 counting_all by turns = bounds turns (length (nodes by.stack.entries))
 
--- of how many of the first nodes lookups are counted
+-- how many of the first nodes have their lookups counted
 abbrev pub nodes_counted : Counted → Stacked → ℕ
 nodes_counted AllNodes stack = length (nodes stack.entries)
 nodes_counted NoNodes stack = 0
@@ -52,40 +53,32 @@ abbrev pub bounds_over : ℕ → Counted → Sourced → Bounds
 bounds_over turns counted by = bounds turns (nodes_counted counted by.stack)
 
 -- a stream that begins in this session was served over a stack of layers and the sources of their
--- data, each message as FUSE has it over the visible paths, and its end is reported
-pub record IsRunWithin {A : Type 0} (first : Session) (by : Sourced) (within : Bounds) (t : Trace)
-    (result : Result (Done A) Stop) : Type 0 where
-  pub ended : Result (Done A) StreamFault
-  pub result_is : result ≡ told ended
-  pub run : IsRun (answering_from first by) within.counted within.turns t ended
+-- data, each message by the definitions of FUSE over the visible paths, and its end is reported
+abbrev pub IsRunWithin : {A : Type 0} → Session → Sourced → Bounds → Trace
+    → Result (Done A) StreamFault → Type 0
+IsRunWithin first by within t result =
+    IsRun (answering_from first by) within.counted within.turns t result
 
--- it was served so between a source and a sink; at `Ok` nothing is left of the source, and with no
--- turns the call answers `Turns`
+-- it was served so between a source and a sink; after `Ok` nothing is left of the source, and with
+-- no turns the result is `Turns`
 pub record RunsWithin {A : Type 0} (first : Session) (by : Sourced) (within : Bounds)
-    (result : Result (Done A) Stop) (old new : Devices) : Type 0 where
+    (result : Result (Done A) StreamFault) (old new : Devices) : Type 0 where
   pub run : Does (λ t. IsRunWithin first by within t result) old new
   pub end : OnOk result (IsAtEnd new.source.left)
-  pub at_once : within.turns ≡ 0 → result ≡ Err Turns
+  pub at_once : within.turns ≡ 0 → result ≡ Err faults.Turns
 
--- the first, with lookups of all nodes counted
-abbrev pub IsRunFrom : {A : Type 0} → Session → Sourced → ℕ → Trace → Result (Done A) Stop → Type 0
-IsRunFrom first by turns t result = IsRunWithin first by (counting_all by turns) t result
-
--- both, if all layers are held
-abbrev pub IsRunOver : {A : Type 0} → Session → Stacked → ℕ → Trace → Result (Done A) Stop
-    → Type 0
-IsRunOver first stack turns t result = IsRunFrom first (in_memory stack) turns t result
-
-abbrev pub RunsBetween : {A : Type 0} → Session → Stacked → ℕ → Result (Done A) Stop → Devices
-    → Devices → Type 0
-RunsBetween first stack turns result old new =
-    RunsWithin first (in_memory stack) (counting_all (in_memory stack) turns) result old new
+-- the same over layers that are all held, with lookups of all nodes counted, and the result is that
+-- of serving
+pub record RunsBetween {A : Type 0} (first : Session) (stack : Stacked) (turns : ℕ)
+    (result : Result (Done A) Stop) (old new : Devices) : Type 0 where
+  pub ended : Result (Done A) StreamFault
+  pub result_is : result ≡ told ended
+  pub runs : RunsWithin first (in_memory stack) (counting_all (in_memory stack) turns) ended old new
 
 -- ---- serve: prepare, then run
 
--- what a call must serve: images by the rules of a profile, with this owner of everything that has
--- no row of attributes, and over them a stream that begins in this session, in at most this many
--- turns
+-- what a call must serve: images by the rules of a profile, with this owner of everything without a
+-- row of attributes, and over them a stream that begins in this session, in at most this many turns
 pub record Call : Type 0 where
   pub profile : Profile
   pub owner : Owner
@@ -93,7 +86,7 @@ pub record Call : Type 0 where
   pub first : Session
   pub turns : ℕ
 
--- the same, of its parts
+-- the same, from its parts
 abbrev pub owned_call : Profile → Owner → List (List ℕ) → Session → ℕ → Call
 owned_call profile owner images first turns =
     record { profile = profile; owner = owner; images = images; first = first; turns = turns }
@@ -109,7 +102,8 @@ pub record IsServedOver {A : Type 0} (call : Call) (result : Result (Done A) Sto
   pub stacked : AreStacked call.profile call.owner call.images stack
   pub runs : RunsBetween call.first stack call.turns result old new
 
--- the images are refused, or memory ran out before their table stood, and no device was called
+-- the images are refused, or memory ran out before their table was complete, and no device was
+-- called
 pub record IsNotBegun {A : Type 0} (call : Call) (result : Result (Done A) Stop)
     (old new : Devices) : Type 0 where
   pub stop : Stop
@@ -124,8 +118,8 @@ ServesBetween call result old new =
 
 -- ---- what it means
 
--- a stream was served to its end, and what was put are the replies that are defined over a stack of
--- layers to all of its messages, one after another
+-- a stream was served to its end, and the bytes written are the replies that are defined over a
+-- stack of layers to all of its messages, one after another
 pub record HasServedOver {A : Type 0} (first : Session) (stack : Stacked) (done : Done A)
     (t : Trace) : Type 0 where
   pub served : HasServed (answering first stack) (length (nodes stack.entries)) t done
@@ -138,7 +132,7 @@ AreRightReplies first by stack messages bytes =
     AreReplies (λ s q told. IsRightOver by (reply stack s q) q told) first (map asked messages)
     bytes
 
--- a stream was served to its end from sources, and what was put are such replies to all of its
+-- a stream was served to its end from sources, and the bytes written are such replies to all of its
 -- messages; and lookups are counted as over that stack
 pub record HasServedRight {A : Type 0} (first : Session) (by : Sourced) (stack : Stacked)
     (done : Done A) (t : Trace) : Type 0 where
@@ -160,7 +154,7 @@ pub record IsRefusedFor (call : Call) (refusal : Refusal) (old new : Devices) : 
   pub refused : AreRefused call.profile call.images refusal
   pub kept : new ≡ old
 
--- with no turns: as many as there are were used up, or the images are refused
+-- with no turns: the turns are used up at once, or the images are refused
 abbrev pub IsAtOnce : {A : Type 0} → Call → Result (Done A) Stop → Type 0
 IsAtOnce call result =
     (result ≡ Err Turns)

@@ -20,7 +20,7 @@ abbrev pub WasGatheredFor : Profile → List ℕ → List ℕ → Type 0
 WasGatheredFor profile b a =
     IsGatheredWithTrailerOf b a ⊎ ((reads_attributes profile ≡ false) × IsGatheredOf b a)
 
--- each of these was gathered so of the image at its position
+-- each of these was gathered so from the image at its position
 abbrev pub WereGatheredFor : Profile → List (List ℕ) → List (List ℕ) → Type 0
 WereGatheredFor profile [] [] = ⊤
 WereGatheredFor profile (b ∷ images) (a ∷ kept) =
@@ -41,7 +41,7 @@ pub record AreStacksOf (images : List (List ℕ)) (gathered whole : Stacked) : T
   pub of_kept : AreStacked profile owner kept gathered
   pub of_images : AreStacked profile owner images whole
 
--- this was gathered from a source for a profile: of whatever bytes the source shows
+-- this was gathered from a source for a profile: from whatever bytes the source shows
 abbrev pub WasGatheredFrom : Profile → Source → List ℕ → Type 0
 WasGatheredFrom profile source a = IfShown source (λ b. WasGatheredFor profile b a)
 
@@ -53,8 +53,8 @@ WereGatheredFrom profile (source ∷ sources) (a ∷ kept) =
 WereGatheredFrom profile [] (a ∷ kept) = ⊥
 WereGatheredFrom profile (source ∷ sources) [] = ⊥
 
--- the images are good; over their stack each reply is the one that is defined, or EIO where the
--- source of its data may lack them, and the same lookups are moved
+-- the images are good; over their stack each reply is the one that is defined, or EIO if the source
+-- of its data may lack them, and the same lookups are moved
 pub record AreServedAs (profile : Profile) (owner : Owner) (by : Sourced)
     (images : List (List ℕ)) : Type 0 where
   pub good : AreStacked profile owner images (over images by.stack)

@@ -10,13 +10,13 @@ use Rattle.serve_loop.specs.declared.stream_fault.StreamFault.TheVariants as fau
 use Rattle.serve_core.specs.declared.stop.Stop.{Stop}
 use Rattle.serve_core.specs.declared.stop.Stop.TheVariants as stops
 
--- a refusal of images, as why serving stopped
+-- a refusal of images, as the reason why serving stopped
 abbrev pub stop_of_refusal : Refusal → Stop
 stop_of_refusal (refusals.Layer layer fault) = stops.Layer layer fault
 stop_of_refusal (refusals.Layers count) = stops.Layers count
 stop_of_refusal refusals.Memory = stops.Memory
 
--- a fault of a stream, as why serving stopped
+-- a fault of a stream, as the reason why serving stopped
 abbrev pub stop_of_fault : StreamFault → Stop
 stop_of_fault (faults.BadLength at len) = stops.BadLength at len
 stop_of_fault (faults.CutOff at) = stops.CutOff at
@@ -30,7 +30,7 @@ abbrev pub told : {A : Type 0} → Result (Done A) StreamFault → Result (Done 
 told (Ok done) = Ok done
 told (Err fault) = Err (stop_of_fault fault)
 
--- serving stopped since the images were refused, or memory ran out before their table stood
+-- serving stopped since the images were refused, or memory ran out before their table was complete
 pub record IsRefusal (profile : Profile) (images : List (List ℕ)) (stop : Stop) : Type 0 where
   pub refusal : Refusal
   pub stop_is : stop ≡ stop_of_refusal refusal

@@ -7,8 +7,8 @@ ghost use Rattle.romfs_format.specs.TrailerExamples.{two_rows};
 ghost use Rattle.romfs_kept.specs.Footprint.{reach};
 ghost use Rattle.romfs_kept.specs.Gathered.{IsGatheredOf};
 
-/// If a profile reads attributes, an image is gathered with its trailer: from the image with two
-/// rows its accessible bytes are gathered without it, and show other rows.
+/// A profile that reads attributes needs the trailer, too: the accessible bytes of the image with
+/// two rows are gathered from it, but show other rows.
 pub fn trailer_left_out_example()
     ensures gathered { IsGatheredOf two_rows (take (reach two_rows) two_rows) }
     ensures rows { rows_shown UsualWithAttributes (take (reach two_rows) two_rows)

@@ -1,5 +1,5 @@
-//! What was gathered from images is refused for what they are refused for, shows what they show,
-//! and is answered as they are.
+//! What was gathered from images is refused for the same faults as they are, shows the same, and
+//! gets the same answers.
 
 ghost use Rattle.std.specs.Prelude.{◌≡◌, ◌≢◌, ◌⊎◌, ◌↔◌, ℕ, List, map, length, take, false};
 ghost use Rattle.devices.specs.Sources.{Source, held};
@@ -39,7 +39,7 @@ pub fn images_are_gathered_of_themselves()
         WereGatheredFor profile images (map (λ b. take (reach b) b) images) }
 {}
 
-/// What was gathered from images is refused for what they are refused for.
+/// What was gathered from images is refused for the same faults as they are.
 #[tactic(auto, using(crate::proofs::Refused::refused_alike))]
 pub fn refused_as_they_are()
     ensures { (profile : Profile) (images kept : List (List ℕ)) →
@@ -47,8 +47,8 @@ pub fn refused_as_they_are()
         (AreRefused profile kept r ↔ AreRefused profile images r) }
 {}
 
-/// It can be stacked if they can, and then shows what they show: the same entries, rows, lists and
-/// owner.
+/// It can be stacked if the images can, and then shows what they show: the same entries, rows,
+/// lists and owner.
 pub fn stacked_as_they_are()
     ensures forth { (profile : Profile) (images kept : List (List ℕ)) →
         WereGatheredFor profile images kept → (owner : Owner) (stack : Stacked) →
@@ -58,10 +58,10 @@ pub fn stacked_as_they_are()
         AreStacked profile owner kept stack → AreStacked profile owner images (over images stack) }
 {}
 
-/// Over what was gathered, with data read from memory that has the images, a request may get the
-/// reply that is defined over the images, and no other; from any sources that hold them that one
-/// alone; from sources that show them that one, or EIO where the source may lack its data. And it
-/// moves the same lookups.
+/// Over what was gathered, with data read from memory that holds the images, a request may get the
+/// reply that is defined over the images, and no other. From any sources that hold them it gets
+/// only that reply; from sources that show them that reply, or EIO if the source may lack its data.
+/// And it moves the same lookups.
 pub fn answered_as_they_are()
     ensures told { (images : List (List ℕ)) (gathered whole : Stacked) →
         AreStacksOf images gathered whole → (s : Session) (q : Asked) (bytes : List ℕ) →
@@ -80,8 +80,9 @@ pub fn answered_as_they_are()
         moves gathered s q ≡ moves whole s q }
 {}
 
-/// Whatever the sources give, for instance files that were changed or fail: each request but a READ
-/// gets the reply that is defined over the images, and a READ one with as much data, or EIO.
+/// Whatever the sources return, for instance for files that were changed or fail: each request
+/// except READ gets the reply that is defined over the images, and READ one with as much data, or
+/// EIO.
 pub fn only_data_are_read()
     ensures others { (images : List (List ℕ)) (gathered whole : Stacked) →
         AreStacksOf images gathered whole → (sources : List Source) (s : Session) (q : Asked)
@@ -95,8 +96,8 @@ pub fn only_data_are_read()
         ⊎ (bytes ≡ error_reply q.unique EIO) }
 {}
 
-/// From sources that hold the images a stream is served as over the images, to its end; from
-/// sources that show them with EIO in place of data that may be lacking.
+/// From sources that hold the images, a stream is served as over the images, to its end; from
+/// sources that show them, with EIO instead of data that may be missing.
 pub fn streams_are_served_as_over_them<A: Allocator>()
     ensures told { (images : List (List ℕ)) (gathered whole : Stacked) →
         AreStacksOf images gathered whole → (sources : List Source) → AreHeldBy sources images →
@@ -121,11 +122,11 @@ pub fn streams_are_served_as_over_them<A: Allocator>()
         HasServedRight first (sourced gathered sources) whole done t }
 {}
 
-/// What was gathered from sources is served as any images are that the sources show: it is refused
-/// for what they are refused for; and once it is stacked they are good, each reply is the one that
-/// is defined over them, or EIO in place of data, and the same lookups are moved. A sealed source
-/// shows any bytes with its digest, unless a read gives, in the place of a block of theirs or of
-/// their tree, another block with that block's digest. Bytes in memory show themselves.
+/// What was gathered from sources is served like any images that the sources show: it is refused
+/// for the same faults. Once it is stacked the images are good, each reply is the one that is
+/// defined over them, or EIO instead of data, and the same lookups are moved. A sealed source shows
+/// any bytes with its digest, unless a read returns, instead of a block of theirs or of their tree,
+/// another block with the same digest. Bytes in memory show themselves.
 pub fn shown_images_are_served()
     ensures refused { (profile : Profile) (sources : List Source) (images kept : List (List ℕ)) →
         WereGatheredFrom profile sources kept → AreShown sources images → (r : Refusal) →

@@ -1,7 +1,7 @@
 //! What serving over images means: each law follows from what [`crate::serve_as`] promises, and so
-//! does what is promised of images that are prepared and a stream that is then run over them. What
-//! each end of a stream means say `serve_loop::laws`, and that images are refused for one reason
-//! says `stack_prepare::laws`.
+//! does what is promised if images are prepared and a stream is then run over them.
+//! `serve_loop::laws` say what each end of a stream means, and `stack_prepare::laws` that images
+//! are refused for one reason.
 
 ghost use Rattle.std.specs.Prelude.{◌≡◌, ℕ, List, map, Result, Ok, Err};
 ghost use Rattle.devices.specs.States.{Devices};
@@ -11,6 +11,7 @@ ghost use Rattle.stack_prepare.specs.declared.refusal.Refusal.TheVariants as ref
 ghost use Rattle.stack_prepare.specs.Layers.{AreRefused};
 ghost use Rattle.stack_prepare.specs.Preparing.{AreStacked};
 ghost use Rattle.serve_loop.specs.declared.done.Done.{Done};
+ghost use Rattle.serve_loop.specs.declared.stream_fault.StreamFault.{StreamFault};
 ghost use Rattle.serve_loop.specs.Serving.{AreRepliesTo};
 ghost use Rattle.stack_model.specs.Listing.{Stacked};
 ghost use Rattle.reply_model.specs.declared.session.Session.{Session};
@@ -21,14 +22,14 @@ ghost use Rattle.reply_pool.specs.Answers.{answering, answering_from};
 ghost use Rattle.serve_core.specs.declared.stop.Stop.{Stop};
 ghost use Rattle.serve_core.specs.declared.stop.Stop.TheVariants.{Layer, Layers};
 ghost use Rattle.serve_core.specs.declared.terms.Counted.TheVariants.{AllNodes};
-ghost use Rattle.serve_core.specs.Stops.{stop_of_refusal};
+ghost use Rattle.serve_core.specs.Stops.{stop_of_refusal, told};
 ghost use Rattle.serve_core.specs.Headline.{Call, ServesBetween, AreRightReplies, HasServedAll, IsRefusedFor, IsAtOnce, RunsWithin, bounds_over};
 
 use std::alloc::Allocator;
 
-/// If layers are held in memory, messages may only be answered with their defined replies, one
-/// after another; the same if their data are read from sources that hold exactly the layers' bytes.
-/// From sources that show these bytes a READ of data may be answered with EIO instead.
+/// If layers are held in memory, messages may get only their defined replies, one after another;
+/// the same if their data are read from sources that hold exactly the layers' bytes. From sources
+/// that show these bytes a READ of data may get EIO instead.
 #[tactic(auto, using(crate::proofs::Headline::as_replied))]
 pub fn replies_are_those_defined()
     ensures held { (first : Session) (stack : Stacked) (messages : List (List ℕ))
@@ -64,14 +65,14 @@ pub fn streams_are_served_over_images<A: Allocator>()
 {}
 
 /// To prepare images of any owner, and then to run a stream over their table with lookups of all
-/// nodes counted, is to serve it over the images: as if the program holds them in full.
+/// nodes counted, is to serve it over the images, as a program that holds them in full does.
 #[tactic(auto, using(crate::proofs::Headline::run_once_prepared))]
 pub fn streams_are_served_once_images_are_prepared<A: Allocator>()
-    ensures run { (call : Call) (stack : Stacked) (result : Result (Done A) Stop)
+    ensures run { (call : Call) (stack : Stacked) (ended : Result (Done A) StreamFault)
         (old new : Devices) → AreStacked call.profile call.owner call.images stack →
         RunsWithin call.first (in_memory stack)
-        (bounds_over call.turns AllNodes (in_memory stack)) result old new →
-        ServesBetween call result old new }
+        (bounds_over call.turns AllNodes (in_memory stack)) ended old new →
+        ServesBetween call (told ended) old new }
     ensures refused { (call : Call) (refusal : Refusal) (devices : Devices) →
         AreRefused call.profile call.images refusal →
         ServesBetween {A = A} call (Err (stop_of_refusal refusal)) devices devices }

@@ -3,20 +3,22 @@
 //! [`prepare`] checks images, the lowest layer first, and stacks them (`stack_prepare`); [`run`]
 //! serves a stream over their table (`serve_loop`, `reply_pool`); [`serve`] is [`prepare`], then
 //! [`run`]. For every list of images, request stream, cutting of its pulls and [`Terms`], the bytes
-//! put are the definition's replies, one after another; or the images are refused, and no device is
-//! called. `_as` takes a profile of rules. [`run_from`] serves over a table and the files of its
-//! layers, as the program does: the data of a READ are then those that its layer's file may give,
-//! or the reply is EIO. [`run_until`] is the one call below these, which may end as the session
-//! begins. `IsRun` in `serve_loop`'s `specs/Serving` defines what serving promises at each end, and
-//! `ServesBetween` in `specs/Headline` over images; [`laws`] derive from it what each end means,
-//! also for the program's calls: images that are prepared and a stream that is then run over them.
-//! [`Stop`] joins the faults of the two halves: why images were refused, and why a stream was not
-//! served to its end.
+//! written are the definition's replies, one after another; or the images are refused, and no
+//! device is called.
 //!
-//! Of an image that stays in its file only what the rules check is held, and data are read from the
-//! file. [`kept_laws`] say that what was gathered from images is refused, stacked and answered as
-//! the images are: in each byte if the files hold them, and in all but the data of a READ whatever
-//! the files give.
+//! Calls with `_as` take a profile of rules. [`run_from`] serves over a table and the files of its
+//! layers, as the program does: the data of a READ are then those that its layer's file may return,
+//! or the reply is EIO. [`run_until`], which all of these call, may end as soon as the session
+//! begins. `IsRun` in `serve_loop`'s `specs/Serving` defines what serving promises at each end, and
+//! `ServesBetween` in `specs/Headline` what it promises over images. [`laws`] derive from it what
+//! each end means, also for the program's calls: images that are prepared and a stream that is then
+//! run over them. A stream over a table stops for a [`StreamFault`]. [`Stop`] joins these with the
+//! reasons to refuse images, for the calls that take images, and for [`run`].
+//!
+//! Of an image that stays in its file only what the rules check is held in memory, and data are
+//! read from the file. [`kept_laws`] say that what was gathered from images is refused, stacked and
+//! answered as the images are: in each byte if the files hold them, and in everything but the data
+//! of a READ whatever the files return.
 #![tactic(auto)]
 
 pub mod kept_examples;
@@ -36,7 +38,7 @@ pub use reply_model::Session;
 pub use reply_pool::{Plan, Served};
 pub use romfs_format::Profile;
 pub use running::{run, run_from, run_until};
-pub use serve_loop::{Begun, Done, Opening, Until};
+pub use serve_loop::{Begun, Done, Opening, StreamFault, Until};
 pub use serving::{serve, serve_as};
 pub use stack_prepare::SharedAllocator;
 pub use stop::Stop;

@@ -1,4 +1,4 @@
-//! Images, checked and stacked, as serving begins.
+//! Images, checked and stacked before serving.
 
 ghost use Rattle.std.specs.Prelude.{◌≡◌, true, IfOk, IfErr};
 ghost use Rattle.stack_model.specs.declared.owner.TheConstants.Owner.{ROOT};
@@ -15,9 +15,9 @@ use std::thread::Threads;
 /// Checks images by the usual profile's rules and stacks them, the lowest layer first, into one
 /// table, as [`stack_prepare::prepare`] does.
 ///
-/// `Layers` exactly if there are none or more than 128, before anything else is done; else `Layer`
-/// names the lowest image that breaks a rule, and its fault. The gate is passed before each check
-/// and each tree.
+/// `Layers` exactly if there are none or more than 128, before anything else is done; otherwise
+/// `Layer` names the lowest image that breaks a rule, and its fault. The gate is passed before each
+/// check and each tree.
 pub fn prepare<R: Threads + Sync, A: SharedAllocator, G: Gate + Sync>(
     rt: &R,
     alloc: A,
@@ -31,7 +31,7 @@ pub fn prepare<R: Threads + Sync, A: SharedAllocator, G: Gate + Sync>(
     prepare_as(rt, alloc, images, Profile::Usual, gate)
 }
 
-/// The same, by the rules of a profile; one with attributes reads the images' rows.
+/// The same, by the rules of a profile; a profile with attributes reads the images' rows.
 pub fn prepare_as<R: Threads + Sync, A: SharedAllocator, G: Gate + Sync>(
     rt: &R,
     alloc: A,

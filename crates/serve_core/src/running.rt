@@ -16,20 +16,20 @@ use devices::{Contents, Sink, Source};
 use draw_board::Gate;
 use reply_model::Session;
 use reply_pool::{Pool, RoundPieces, Served, spread_out};
-use serve_loop::{Done, Opening, Until};
+use serve_loop::{Done, Opening, StreamFault, Until};
 use stack_prepare::{SharedAllocator, Table};
 use std::alloc::AllocError;
 use std::thread::Threads;
 
 /// Serves the source's stream of requests over a table of images held in full into the sink, in at
-/// most as many pulls as its terms allow, of at most 65,536 bytes each. The bytes put are the
+/// most as many pulls as its terms allow, of at most 65,536 bytes each. The bytes written are the
 /// replies to the stream, for every plan and every cutting into pulls. Lookups of all nodes are
 /// counted.
 ///
 /// - `Ok`: the stream came to its end between two messages: nothing is left of it, and all replies
 ///   are written and flushed.
-/// - `BadLength`, `CutOff`, `Read` and `Turns`: all replies to the complete messages that came are
-///   written and flushed.
+/// - `BadLength`, `CutOff`, `Read` and `Turns`: all replies to the complete messages that arrived
+///   are written and flushed.
 /// - `Write` and `Memory`: some of the first replies are written.
 ///
 /// `Read` and `Write` exactly if the source's or the sink's count of failures rose in this call.
@@ -51,12 +51,12 @@ pub fn run<R: Threads + Sync, A: SharedAllocator, S: Source, K: Sink, G: Gate + 
         (devices (S.state source.old) (K.state sink.old))
         (devices (S.state source.new) (K.state sink.new)) }
 {
-    run_from(rt, alloc, Served::held(table), source, sink, terms)
+    Ok(run_from(rt, alloc, Served::held(table), source, sink, terms)?)
 }
 
 /// The same over a table and the files of its layers, with lookups counted as the terms say. Data
-/// in a file are read on demand: a READ gets what the file gave then, or EIO if a read failed or
-/// the file ended earlier. All else is as in [`run`].
+/// in a file are read on demand: a READ gets what the file returned then, or EIO if a read failed
+/// or the file ended earlier. All else is as in [`run`].
 pub fn run_from<
     R: Threads + Sync,
     A: SharedAllocator,
@@ -71,7 +71,7 @@ pub fn run_from<
     source: &mut S,
     sink: &mut K,
     terms: &Terms<'_, G>,
-) -> Result<Done<A>, Stop>
+) -> Result<Done<A>, StreamFault>
     requires { AreReady terms.now.turns (devices (S.state source.old) (K.state sink.old)) }
     ensures { let by = sourced_by D.source served.entry in
         RunsWithin terms.now.first by (bounds_over terms.now.turns terms.now.counted by) result
@@ -80,14 +80,14 @@ pub fn run_from<
 {
     match run_until(rt, alloc, served, source, sink, terms, Until::End) {
         Ok(Opening::Ended(done)) => Ok(done),
-        // a stream that is served to its end is not left as its session begins
+        // a stream that is served to its end is not left when its session begins
         Ok(Opening::Begun(_)) => unreachable!(),
-        Err(stop) => Err(stop),
+        Err(fault) => Err(fault),
     }
 }
 
 /// The same to the stream's end, or only until its session has begun and no part of a message is
-/// left: what that comes to says [`serve_loop::run_until`].
+/// left; [`serve_loop::run_until`] says what the result is then.
 pub fn run_until<
     R: Threads + Sync,
     A: SharedAllocator,
@@ -103,7 +103,7 @@ pub fn run_until<
     sink: &mut K,
     terms: &Terms<'_, G>,
     until: Until,
-) -> Result<Opening<A>, Stop>
+) -> Result<Opening<A>, StreamFault>
     requires { AreReady terms.now.turns (devices (S.state source.old) (K.state sink.old)) }
     ensures { let by = sourced_by D.source served.entry in RunsUntil until
         terms.now.first by (bounds_over terms.now.turns terms.now.counted by) result
@@ -122,5 +122,5 @@ pub fn run_until<
     { spread_out(rt, alloc, served, stream, session, messages, plan, gate) };
     let counted = nodes_counted(terms.counted, served.table);
     let pool = Pool::new(served, terms.first, plan, gate, workers, counted);
-    Ok(serve_loop::run_until(alloc, &pool, source, sink, terms.turns, until)?)
+    serve_loop::run_until(alloc, &pool, source, sink, terms.turns, until)
 }

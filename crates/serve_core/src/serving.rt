@@ -42,7 +42,7 @@ pub fn serve<R: Threads + Sync, A: SharedAllocator, S: Source, K: Sink, G: Gate 
     serve_as(rt, alloc, images, Profile::Usual, source, sink, terms)
 }
 
-/// The same, by the rules of a profile; one with attributes reads the images' rows.
+/// The same, by the rules of a profile; a profile with attributes reads the images' rows.
 pub fn serve_as<R: Threads + Sync, A: SharedAllocator, S: Source, K: Sink, G: Gate + Sync>(
     rt: &R,
     alloc: A,

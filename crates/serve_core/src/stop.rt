@@ -10,17 +10,18 @@ use stack_prepare::Refusal;
 /// Why a stream was not served to its end: its images were refused, or it stopped.
 #[derive(Clone, Copy, Debug, PartialEq, Eq)]
 pub enum Stop {
-    /// The image of this layer, from 0 on, breaks a rule, and is the lowest that does.
+    /// The image of this layer, counted from 0, breaks a rule, and is the lowest that does.
     Layer { layer: u16, fault: ImageFault },
     /// There are this many images: none, or more than 128.
     Layers { count: u64 },
-    /// The message that begins at this place of the stream says a length that no message has.
+    /// The message that begins at this place of the stream states a length that no message can
+    /// have.
     BadLength { at: u64, len: u32 },
     /// The stream ends inside the message that begins at this place.
     CutOff { at: u64 },
     /// A pull of the source failed.
     Read,
-    /// A push to the sink or a flush failed, or a push took none of some bytes.
+    /// A push to the sink or a flush failed, or a push of some bytes took none.
     Write,
     /// As many pulls as were allowed were made, and none met the end.
     Turns,

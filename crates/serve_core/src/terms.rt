@@ -1,4 +1,4 @@
-//! On which terms a stream is served.
+//! The terms on which a stream is served.
 
 ghost use Rattle.std.specs.Prelude.{◌≡◌};
 ghost use Rattle.serve_core.specs.Headline.{nodes_counted};
@@ -8,16 +8,16 @@ use reply_pool::Plan;
 use stack_prepare::Table;
 use std::alloc::Allocator;
 
-/// Of which nodes lookups are counted.
+/// The nodes whose lookups are counted.
 #[derive(Clone, Copy)]
 pub enum Counted {
-    /// Of all; their balances take 16 bytes a node.
+    /// All; their balances take 16 bytes a node.
     AllNodes,
-    /// Of none, and no memory is taken for balances.
+    /// None, and no memory is taken for balances.
     NoNodes,
 }
 
-/// On which terms a stream is served.
+/// The terms on which a stream is served.
 #[derive(Drop)]
 pub struct Terms<'a, G> {
     /// The session that the stream begins in: in [`Session::LastingFresh`] the client learns that
@@ -25,16 +25,16 @@ pub struct Terms<'a, G> {
     pub first: Session,
     /// How many workers answer a round, and in which batches.
     pub plan: Plan,
-    /// How many pulls of the source there are at most.
+    /// The most pulls of the source.
     pub turns: u64,
-    /// Of which nodes lookups are counted.
+    /// The nodes whose lookups are counted.
     pub counted: Counted,
-    /// What is passed before the first request of each batch is answered, and before each image is
-    /// checked and stacked.
+    /// Passed before the first request of each batch is answered, and before each image is checked
+    /// and stacked.
     pub gate: &'a G,
 }
 
-// Of how many of the first nodes of a table lookups are counted.
+// How many of the first nodes of a table have their lookups counted.
 pub(crate) fn nodes_counted<A: Allocator>(counted: Counted, table: &Table<A>) -> u64
     ensures { result ≡ nodes_counted counted table.now }
 {

@@ -1,5 +1,5 @@
 -- Readers that served did so in a session that had begun (`went_on`); one that served alone ended before (`ended_before`).
-use Rattle.std.proofs.Common.{◌≡◌, ◌∙◌, sym, subst, false, List, ◌∷◌, None, Some, Result}
+use Rattle.std.proofs.Common.{◌≡◌, subst, false, List, ◌∷◌, None, Some, Result}
 use Rattle.std.specs.List.{AllZip}
 use Rattle.reply_model.specs.declared.session.Session.{Session}
 use Rattle.reply_model.specs.Readings.{Sourced}
@@ -8,10 +8,9 @@ use Rattle.reply_pool.specs.Answers.{answering_from}
 use Rattle.serve_loop.specs.declared.done.Done.{Done}
 use Rattle.serve_loop.specs.Opening.{WasNotBegun}
 use Rattle.serve_loop.specs.Serving.{Does, Trace}
-use Rattle.serve_core.specs.declared.stop.Stop.{Stop}
+use Rattle.serve_loop.specs.declared.stream_fault.StreamFault.{StreamFault}
 use Rattle.serve_core.specs.Headline.{Bounds}
 use Rattle.serve_core.specs.Openings.{IsNotOpenedOver}
-use Rattle.serve_core.proofs.Stops.{ended_well, read_told}
 use Rattle.serve_device.specs.Laws.{HasServedBefore}
 use Rattle.serve_device.specs.Readers.{AreServedBy, HasDone, HasServed, shared}
 use Rattle.serve_device.specs.Seats.{SeatState}
@@ -25,13 +24,12 @@ module _ {A : Type 0} (over : Sourced) (within : Bounds) where
       let (got, put, took, held, opened) = s.opened in
       (s.begun.session, opened.ready, s.leader, s.began, s.others, s.old_is, s.each)
 
-  served_before : (first : Session) (t : Trace) (result : Result (Done A) Stop) → IsNotOpenedOver first over within t result
+  served_before : (first : Session) (t : Trace) (result : Result (Done A) StreamFault) → IsNotOpenedOver first over within t result
       → HasServedBefore first over within t result
   served_before first t result o = record {
     run = o.run;
-    ended = λ done is. subst (WasNotBegun (answering_from first over) t) (ended_well done o.run.ended (sym is ∙ o.run.result_is))
-        o.not_begun;
-    failed = λ is. subst (WasNotBegun (answering_from first over) t) (read_told o.run.ended (sym is ∙ o.run.result_is)) o.not_begun;
+    ended = λ done is. subst (WasNotBegun (answering_from first over) t) is o.not_begun;
+    failed = λ is. subst (WasNotBegun (answering_from first over) t) is o.not_begun;
   }
 
   pub ended_before : (first : Session) (old new : List (SeatState A)) → AreServedBy first (shared over within) old new None

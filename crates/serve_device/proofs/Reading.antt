@@ -1,5 +1,5 @@
 -- The results of all readers, seat by seat. A call at each place of a list makes a relation of both lists (`zipped`); seats that are new,
--- but for the first, which has served, may be served on (`ready_all`); and what the opening and then all of them did is what is promised of
+-- except the first, which has served, may serve on (`ready_all`); and what the opening and then all of them did is what is promised for
 -- readers (`served_by_one`, `served_by_all`).
 use Rattle.std.proofs.Common.{◌≡◌, sym, ap, subst, refl, ℕ, zero, suc, ◌<◌, ◌≤◌, List, [], ◌∷◌, length, map, drop, replicate, slice_index_or, slice_set, Option, None, Some, arith}
 use Rattle.std.specs.List.{AllByRecursion, AllZip}
@@ -53,14 +53,14 @@ module _ {A : Type 0} (turns : ℕ) where
   all_ready [] new few = tt
   all_ready (seat ∷ seats) new few = (ready_new seat new.0 few, all_ready seats new.1 few)
 
-  -- and so may those of a seat that has come in the place of the first
+  -- and so may those of a seat that replaced the first
   pub ready_all : {X : Type 0} (f : X → SeatState A) (xs : List X) (y : X) → 0 < length xs → AreNew (map f xs) → turns ≤ MAX_TURNS
       → AreReady turns (devices_of (f y)) → AllByRecursion (λ seat. AreReady turns (devices_of seat)) (map f (slice_set xs 0 y))
   ready_all f [] y some new few ready = absurd (omega (arith, some))
   ready_all f (x ∷ xs) y some new few ready = (ready, all_ready (map f xs) new.1 few)
 
 module _ {A : Type 0} (first : Session) (by : Sourced) (within : Bounds) where
-  -- where the session has begun, the devices may be used on
+  -- if the session has begun, the devices may be used on
   pub ready_on : (old new : SeatState A) (begun : Begun A) → (left : Option (List ℕ)) × (old ≡ new_seat left)
       → within.turns ≤ MAX_TURNS → HasOpened first (shared by within) old new (Some begun) → AreReady within.turns (devices_of new)
   ready_on old new begun (left, e) few (got, put, took, held, b) =

@@ -1,5 +1,5 @@
--- What is known between two tries of `read_again`. `held-step` counts one more; `tried-fresh` and `never-again` say of an answer that is
--- not interrupted that it is the last.
+-- What is known between two tries of `read_again`. `held-step` counts one more; `tried-fresh` and `never-again` say that a result that is
+-- not an interruption is the last.
 use Rattle.std.proofs.Common.{rules, arith, refl, true, ◌≡◌, ℕ, ℤ, ◌+◌, Option, Some}
 use Rattle.devices.specs.Counting.{held_sum, up}
 use Rattle.serve_device.specs.declared.answer.Answer.TheVariants.{Failure}

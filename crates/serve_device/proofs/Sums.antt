@@ -17,10 +17,9 @@ use Rattle.reply_pool.specs.Answers.{answering_from}
 use Rattle.serve_loop.specs.declared.done.Done.{Done}
 use Rattle.serve_loop.specs.Rounds.{Answering}
 use Rattle.serve_loop.specs.Serving.{moves_of}
-use Rattle.serve_core.specs.declared.stop.Stop.{Stop}
+use Rattle.serve_loop.specs.declared.stream_fault.StreamFault.{StreamFault}
 use Rattle.serve_core.specs.Headline.{Bounds, IsRunWithin}
-use Rattle.serve_core.proofs.Stops.{ended_well}
-use Rattle.serve_loop.specs.Serving.{Does, IsRun, Trace}
+use Rattle.serve_loop.specs.Serving.{Does, Trace}
 use Rattle.serve_device.specs.Ends.{done_of}
 use Rattle.serve_device.specs.Readers.{HasServed}
 use Rattle.serve_device.specs.Seats.{SeatState, devices_of, done_of_all}
@@ -99,7 +98,7 @@ parts_keep s (part ∷ parts) k = let both = apart part k in (both.0, parts_keep
     apart [] k = (tt, k)
     apart (m ∷ part) k = let rest = apart part k.1 in ((k.0, rest.0), rest.1)
 
--- what they move is what one stream of all messages moves, in whatever order
+-- what they move is what one stream of all messages moves, in any order
 pub together : (by : Answering) (parts : List (List (List ℕ))) (all : List (List ℕ))
     → IsPermutation (flat_map (λ part. part) parts) all → KeepsSession by.first all → (node : ℕ)
     → moved_at by node parts ≡ balance node (moves_of by all)
@@ -125,13 +124,10 @@ counted by nodes (done ∷ more) (messages ∷ others) c place there =
 
 -- the stream of a reader that ended left what its messages moved
 module _ {A : Type 0} (session : Session) (over : Sourced) (within : Bounds) where
-  came_one : (t : Trace) (result : Result (Done A) Stop) → IsRunWithin session over within t result
+  came_one : (t : Trace) (result : Result (Done A) StreamFault) → IsRunWithin session over within t result
       → (parts : List (List (List ℕ))) × CameOf (answering_from session over) within.counted (done_of (Some result)) parts
-  came_one t (Ok done) run =
-      let r = subst (IsRun (answering_from session over) within.counted within.turns t)
-      (ended_well done run.ended run.result_is) run.run in
-      (r.messages ∷ [], (r.served.balanced, tt))
-  came_one t (Err stop) run = ([], tt)
+  came_one t (Ok done) run = (run.messages ∷ [], (run.served.balanced, tt))
+  came_one t (Err fault) run = ([], tt)
 
   came_append : (xs ys : List (Done A)) (ps qs : List (List (List ℕ)))
       → CameOf (answering_from session over) within.counted xs ps
@@ -164,8 +160,7 @@ module _ {A : Type 0} (session : Session) (over : Sourced) (within : Bounds) whe
   read_of : (old new : SeatState A) → HasServed session over within old new
       → (messages : List (List ℕ)) × Does (IsAnswered (answering_from session over) messages) (devices_of old) (devices_of new)
   read_of old new s =
-      let (got, put, took, held, run) = s.does.run in
-      let r = run.run in
+      let (got, put, took, held, r) = s.does.run in
       (r.messages, (got, put, took, held, record { rest = r.rest; split = r.split; begun = r.begun }))
 
   pub read : (old new : List (SeatState A)) → AllZip (HasServed session over within) old new

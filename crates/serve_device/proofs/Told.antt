@@ -12,7 +12,7 @@ use Rattle.serve_device.specs.Reads.{PullsMessage, ReaderState, after_read, spen
 use Rattle.serve_device.specs.Troubles.{gone_after, read_trouble, write_trouble}
 use Rattle.serve_device.specs.Writes.{WriterState}
 
--- ENOENT alone says that nobody waits for a reply
+-- only ENOENT says that no request waits for a reply
 unwanted_at : (n : ℕ) (two nineteen : Bool) → (n == 2) ≡ two
     → (if two then Unwanted else (if nineteen then Gone else Fault)) ≡ Unwanted → n ≡ 2
 unwanted_at n true b e u = eqb-true n 2 e
@@ -24,7 +24,7 @@ unwanted (Some (pos n)) u = ap (λ k. Some (pos k)) (unwanted_at n (n == 2) (n =
 unwanted (Some (negsuc n)) u = absurd (cc)
 unwanted None u = absurd (cc)
 
--- only ENODEV means at a write an unmount
+-- only ENODEV from a write means an unmount
 gone_write_at : (n : ℕ) (two nineteen : Bool) → (n == 19) ≡ nineteen
     → (if two then Unwanted else (if nineteen then Gone else Fault)) ≡ Gone → n ≡ 19
 gone_write_at n true b e u = absurd (cc)
@@ -36,7 +36,7 @@ gone_write (Some (pos n)) u = ap (λ k. Some (pos k)) (gone_write_at n (n == 2) 
 gone_write (Some (negsuc n)) u = absurd (cc)
 gone_write None u = absurd (cc)
 
--- and at a read
+-- and from a read
 gone_read_at : (n : ℕ) (two four eleven aborted nineteen : Bool) → (n == 19) ≡ nineteen
     → (if two then Again else (if four then Again else (if eleven then Again
     else (if aborted then Again else (if nineteen then Gone else Fault))))) ≡ Gone → n ≡ 19
@@ -53,7 +53,7 @@ gone_read (Some (pos n)) u =
 gone_read (Some (negsuc n)) u = absurd (cc)
 gone_read None u = absurd (cc)
 
--- a device that was not gone is so after this outcome alone
+-- a device that was not gone is gone only after this outcome
 made_gone : (outcome : Result ℕ Trouble) → true ≡ gone_after false outcome → outcome ≡ Err Gone
 made_gone (Ok n) e = absurd (cc)
 made_gone (Err Again) e = absurd (cc)
@@ -79,7 +79,7 @@ done_by n len (Failure number) outcome e r = inr (ap Failure (unwanted number (b
     by_trouble Fault (Ok m) e r = absurd (cc)
     by_trouble Fault (Err t) e r = absurd (cc)
 
--- a push that is done with wrote, and the write took so much or was answered ENOENT
+-- a push that succeeded wrote, and the write took this much or returned ENOENT
 pub done_push : (bytes : List ℕ) (n : ℕ) (old new : WriterState) (was is : Bool) → PutsReply bytes (Ok n) old new was is
     → (new.writes ≡ up old.writes) × ((new.last ≡ Some (Bytes n)) ⊎ (new.last ≡ Some (Failure (Some (pos 2)))))
 done_push bytes n old new was is p = go p.writes
@@ -107,7 +107,7 @@ gone_by len (Failure number) e = ap Failure (gone_write number (by_trouble (writ
     by_trouble Gone e = refl
     by_trouble Fault e = absurd (cc)
 
--- a push that leaves a sink gone had its write answered ENODEV
+-- if a push leaves a sink gone, its write returned ENODEV
 pub gone_push : (bytes : List ℕ) (result : Result ℕ Failed) (old new : WriterState) → PutsReply bytes result old new false true
     → new.last ≡ Some (Failure (Some (pos 19)))
 gone_push bytes result old new p = go p.writes
@@ -131,7 +131,7 @@ got_by n (Bytes m) (Err t) e r = absurd (cc)
 got_by n (Failure number) (Ok k) e r = absurd (cc)
 got_by n (Failure number) (Err t) e r = absurd (cc)
 
--- a pull that gave so much had its last read answered so
+-- if a pull returned this much, its last read did
 pub done_pull : (n : ℕ) (old new : ReaderState) (was is : Bool) → PullsMessage (Ok n) old new was is → new.last ≡ Some (Bytes n)
 done_pull n old new was is p =
     p.reads.last ∙ ap Some (got_by n p.reads.answer p.outcome p.reads.outcome_is p.result_is)
@@ -148,7 +148,7 @@ gone_read_by (Failure number) e =
     by_trouble Gone e = refl
     by_trouble Fault e = absurd (cc)
 
--- a pull that leaves a source gone had its last read answered ENODEV
+-- if a pull leaves a source gone, its last read returned ENODEV
 pub gone_pull : (result : Result ℕ Failed) (old new : ReaderState) → PullsMessage result old new false true
     → new.last ≡ Some (Failure (Some (pos 19)))
 gone_pull result old new p =

@@ -24,8 +24,8 @@ BeginsNone bytes = (n : ℕ) → ¬ BeginsReply bytes n
 abbrev pub IsWithinFirst : List ℕ → ℕ → Type 0
 IsWithinFirst bytes taken = (n : ℕ) × BeginsReply bytes n × (taken ≤ n)
 
--- the result of trouble in the write of a reply of n bytes: at ENOENT nobody waits for it, and it
--- counts as fully taken
+-- the result of an error in the write of a reply of n bytes: with ENOENT no request waits for it,
+-- and it counts as fully taken
 abbrev pub after_trouble : ℕ → Trouble → Result ℕ Trouble
 after_trouble n Unwanted = Ok n
 after_trouble n Again = Err Again
@@ -53,12 +53,12 @@ pub record WritesNone (bytes : List ℕ) (outcome : Result ℕ Trouble)
   pub kept : new ≡ old
   pub outcome_is : outcome ≡ Err Fault
 
--- what a writer was asked for these bytes, and the result
+-- the call of a writer with these bytes, and the result
 abbrev pub Writes : List ℕ → Result ℕ Trouble → WriterState → WriterState → Type 0
 Writes bytes outcome old new =
     WritesFirst bytes outcome old new ⊎ WritesNone bytes outcome old new
 
--- a push: the outcome of its write alone says what was taken and whether the sink is gone
+-- a push: only the outcome of its write determines what was taken and whether the sink is gone
 pub record PutsReply (bytes : List ℕ) (result : Result ℕ Failed) (old new : WriterState)
     (was_gone is_gone : Bool) : Type 0 where
   pub outcome : Result ℕ Trouble

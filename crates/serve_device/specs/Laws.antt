@@ -1,5 +1,5 @@
--- The results of readers, for a caller: which end is reported, when only one serves, and what they
--- moved together.
+-- The results of readers, for a caller: which end is reported, when only one serves, and the
+-- lookups that they moved together.
 use Rattle.std.specs.Prelude.{◌≡◌, ◌≤◌, ◌⊎◌, ⊤, ℕ, ℤ, pos, ◌+ℤ◌, List, [], ◌∷◌, Result, Ok, Err}
 use Rattle.std.specs.List.{AllByRecursion}
 use Rattle.fuse_wire.specs.Requests.{asked}
@@ -14,8 +14,8 @@ use Rattle.serve_loop.specs.declared.done.Done.{Done}
 use Rattle.serve_loop.specs.Opening.{HasNotBegun}
 use Rattle.serve_loop.specs.Rounds.{Answering}
 use Rattle.serve_loop.specs.Serving.{AreBalances, BeginReplies, Does, Trace, moves_of}
-use Rattle.serve_core.specs.declared.stop.Stop.{Stop}
-use Rattle.serve_core.specs.declared.stop.Stop.TheVariants.{Read}
+use Rattle.serve_loop.specs.declared.stream_fault.StreamFault.{StreamFault}
+use Rattle.serve_loop.specs.declared.stream_fault.StreamFault.TheVariants.{Read}
 use Rattle.serve_core.specs.Headline.{Bounds, IsRunWithin}
 use Rattle.serve_device.specs.declared.ends.End.{End}
 use Rattle.serve_device.specs.Ends.{place_of_end}
@@ -25,20 +25,20 @@ use Rattle.serve_device.specs.Seats.{SeatState, devices_of, own_end}
 abbrev pub IsToldFirst : {A : Type 0} → End → List (SeatState A) → Type 0
 IsToldFirst end seats = AllByRecursion (λ s. place_of_end end ≤ place_of_end (own_end s)) seats
 
--- one of the readers ended so
+-- one of the readers has this end
 abbrev pub HasReader : {A : Type 0} → End → List (SeatState A) → Type 0
 HasReader end [] = ⊥
 HasReader end (seat ∷ seats) = (end ≡ own_end seat) ⊎ HasReader end seats
 
 -- a reader's messages were served over a stack as a stream that begins in this session; if they
--- ended, or a read failed, they are no complete messages after which it has begun
+-- ended, or a read failed, they are not complete messages after which it has begun
 pub record HasServedBefore {A : Type 0} (first : Session) (by : Sourced) (within : Bounds)
-    (t : Trace) (result : Result (Done A) Stop) : Type 0 where
+    (t : Trace) (result : Result (Done A) StreamFault) : Type 0 where
   pub run : IsRunWithin first by within t result
   pub ended : (done : Done A) → result ≡ Ok done → HasNotBegun (answering_from first by) t.got
   pub failed : result ≡ Err Read → HasNotBegun (answering_from first by) t.got
 
--- these complete messages were read, and what was put begins the replies to them
+-- these complete messages were read, and the bytes written are a prefix of the replies to them
 pub record IsAnswered (by : Answering) (messages : List (List ℕ)) (t : Trace) : Type 0 where
   pub rest : List ℕ
   pub split : IsSplit t.got messages rest
@@ -53,19 +53,19 @@ HaveMessages by (old ∷ olds) (new ∷ news) (messages ∷ others) =
     × HaveMessages by olds news others
 HaveMessages by _ _ _ = ⊥
 
--- what these parts of messages give to a node, less what they take, each part a stream of its own
+-- what these parts of messages give to a node, minus what they take, each part a stream of its own
 abbrev pub moved_at : Answering → ℕ → List (List (List ℕ)) → ℤ
 moved_at by node [] = pos 0
 moved_at by node (messages ∷ others) =
     balance node (moves_of by messages) +ℤ moved_at by node others
 
--- how many lookups these streams leave with the client together, of the node at a place, if they
--- count these
+-- how many lookups these streams together leave with the client, of the node at a place, if they
+-- count them
 abbrev pub sum_at : {A : Type 0} → ℕ → List (Done A) → ℤ
 sum_at place [] = pos 0
 sum_at place (done ∷ more) = balance_at done.balances.items place +ℤ sum_at place more
 
--- each of these streams left what its messages moved, of this many of the first nodes
+-- each of these streams left what its messages moved, for this many of the first nodes
 abbrev pub CameOf : {A : Type 0} → Answering → ℕ → List (Done A) → List (List (List ℕ)) → Type 0
 CameOf by nodes [] [] = ⊤
 CameOf by nodes (done ∷ more) (messages ∷ others) =

@@ -13,7 +13,7 @@ pub record MountEnds : Type 0 where
   pub input_gone : Bool
   pub output_gone : Bool
 
--- of these two devices, by what the reader has left
+-- those of these two devices, by what the reader has left
 abbrev pub ends : {R A W : Type 0} → (R → Option (List ℕ)) → MessageTap R A → ReplySpout W
     → MountEnds
 ends remaining tap spout = record {

@@ -1,5 +1,5 @@
 -- What the readers of one open /dev/fuse do, each a stream of its own between its own devices, over
--- one stack and the sources of its data. Each counts lookups of as many nodes as its bounds say.
+-- one stack and the sources of its data. Each counts lookups for as many nodes as its bounds say.
 use Rattle.std.specs.Prelude.{◌≡◌, ◌<◌, IsTrue, List, ◌∷◌, Option, None, Some, Result, Ok}
 use Rattle.std.specs.List.{AllZip}
 use Rattle.devices.specs.States.{Devices}
@@ -9,7 +9,7 @@ use Rattle.serve_loop.specs.declared.done.Done.{Done}
 use Rattle.serve_loop.specs.declared.opening.Begun.{Begun}
 use Rattle.serve_loop.specs.declared.opening.Opening.TheVariants as openings
 use Rattle.serve_loop.specs.Serving.{Does}
-use Rattle.serve_core.specs.declared.stop.Stop.{Stop}
+use Rattle.serve_loop.specs.declared.stream_fault.StreamFault.{StreamFault}
 use Rattle.serve_core.specs.Headline.{Bounds, RunsWithin}
 use Rattle.serve_core.specs.Openings.{IsNotOpenedOver, IsOpenedOver}
 use Rattle.serve_device.specs.Seats.{SeatState, devices_of}
@@ -19,7 +19,7 @@ pub record Shared : Type 0 where
   pub by : Sourced
   pub within : Bounds
 
--- the same, of its parts
+-- the same, from its parts
 abbrev pub shared : Sourced → Bounds → Shared
 shared by within = record { by = by; within = within }
 
@@ -28,11 +28,12 @@ pub record IsGoneByFailure {A : Type 0} (seat : SeatState A) : Type 0 where
   pub input : IsTrue seat.ends.input_gone → 0 < (devices_of seat).source.counts.failures
   pub output : IsTrue seat.ends.output_gone → 0 < (devices_of seat).sink.counts.failures
 
--- a reader served what its devices brought: its result holds between them as they were and are, and
--- its seat has it
-pub record HasDone {A : Type 0} (is : Result (Done A) Stop → Devices → Devices → Type 0)
-    (old new : SeatState A) : Type 0 where
-  pub result : Result (Done A) Stop
+-- a reader served what its devices delivered: its result holds between their old and new states,
+-- and its seat has it
+pub record HasDone {A : Type 0}
+    (is : Result (Done A) StreamFault → Devices → Devices → Type 0) (old new : SeatState A)
+    : Type 0 where
+  pub result : Result (Done A) StreamFault
   pub result_is : new.result ≡ Some result
   pub does : is result (devices_of old) (devices_of new)
   pub gone : IsGoneByFailure new
@@ -43,7 +44,7 @@ abbrev pub HasServed : {A : Type 0} → Session → Sourced → Bounds → SeatS
     → Type 0
 HasServed first by within old new = HasDone (RunsWithin first by within) old new
 
--- a reader served over a stack until its session had begun, if it did; else to the end of its
+-- a reader served over a stack until its session had begun, if it did; otherwise to the end of its
 -- stream, or until it stopped
 abbrev pub HasOpened : {A : Type 0} → Session → Shared → SeatState A → SeatState A
     → Option (Begun A) → Type 0
@@ -76,8 +77,8 @@ pub record IsServedByOne {A : Type 0} (first : Session) (by : Sourced) (within :
   pub new_is : new ≡ ended ∷ others
   pub opened : HasOpened first (shared by within) leader ended None
 
--- readers served a stack and its sources, after what came before their session; or only one, which
--- ended before the session had begun
+-- readers served a stack and its sources, after the messages before their session; or only one,
+-- which ended before the session had begun
 abbrev pub AreServedBy : {A : Type 0} → Session → Shared → List (SeatState A)
     → List (SeatState A) → Option (Done A) → Type 0
 AreServedBy first over old new (Some before) =

@@ -13,28 +13,28 @@ use Rattle.serve_device.specs.Answers.{answer_of, as_failed, asks_again}
 use Rattle.serve_device.specs.Troubles.{gone_after, read_trouble}
 
 -- what it has left, if that is known, how many reads were made, how many of them were not
--- interrupted, and the answer to the last
+-- interrupted, and the result of the last
 pub record ReaderState : Type 0 where
   pub left : Option (List ℕ)
   pub reads : ℕ
   pub settled : ℕ
   pub last : Option Answer
 
--- the same, of its parts
+-- the same, from its parts
 abbrev pub reader_state : Option (List ℕ) → ℕ → ℕ → Option Answer → ReaderState
 reader_state left reads settled last =
     record { left = left; reads = reads; settled = settled; last = last }
 
--- of a reader, by what its inner one has left
+-- that of a reader, by what its inner one has left
 abbrev pub noted_reader : {R : Type 0} → (R → Option (List ℕ)) → NotedReader R → ReaderState
 noted_reader remaining reader =
     reader_state (remaining reader.reader) reader.reads reader.settled reader.last
 
--- its inner one
+-- its inner reader
 abbrev pub inner_reader : {R : Type 0} → NotedReader R → R
 inner_reader reader = reader.reader
 
--- how many reads were not interrupted, after one more that was answered so
+-- how many reads were not interrupted, after one more with this result
 abbrev pub settled_after : ℕ → Answer → ℕ
 settled_after settled answer = if asks_again answer then settled else up settled
 
@@ -46,7 +46,7 @@ pub record HasRead (into : List ℕ) (result : Result ℕ Error) (old new : Read
   pub last : new.last ≡ Some (answer_of result)
   pub left : ReadConsumes old.left new.left result into
 
--- the result of trouble in the last read: if that was interrupted, all tries are spent
+-- the result of an error in the last read: if that was interrupted, all tries are spent
 abbrev pub spent_trouble : Trouble → Trouble
 spent_trouble Again = Fault
 spent_trouble Unwanted = Unwanted
@@ -71,7 +71,8 @@ pub record ReadsLast (outcome : Result ℕ Trouble) (old new : ReaderState) : Ty
   pub last : new.last ≡ Some answer
   pub outcome_is : outcome ≡ after_read answer
 
--- a pull: the outcome of its last read alone says what it gave and whether the source is gone
+-- a pull: only the outcome of its last read determines what it returned and whether the source is
+-- gone
 pub record PullsMessage (result : Result ℕ Failed) (old new : ReaderState)
     (was_gone is_gone : Bool) : Type 0 where
   pub outcome : Result ℕ Trouble

@@ -4,19 +4,19 @@ use Rattle.std.specs.List.{AllByRecursion}
 use Rattle.devices.specs.Counting.{no_pulls, no_pushes}
 use Rattle.devices.specs.States.{Devices, devices, source_state, sink_state}
 use Rattle.serve_device.specs.MountEnds.{MountEnds, ends}
-use Rattle.serve_core.specs.declared.stop.Stop.{Stop}
+use Rattle.serve_loop.specs.declared.stream_fault.StreamFault.{StreamFault}
 use Rattle.serve_loop.specs.declared.done.Done.{Done}
 use Rattle.serve_device.specs.declared.ends.End.{End}
 use Rattle.serve_device.specs.declared.ends.End.TheVariants.{AtEnd}
 use Rattle.serve_device.specs.declared.seat.Seat.{Seat}
 use Rattle.serve_device.specs.Ends.{done_of, end_of, first_told}
 
--- the two ends of the mount as a reader has them, and the result of its stream, if it served one
+-- the two ends of the mount that a reader has, and the result of its stream, if it served one
 pub record SeatState (A : Type 0) : Type 0 where
   pub ends : MountEnds
-  pub result : Option (Result (Done A) Stop)
+  pub result : Option (Result (Done A) StreamFault)
 
--- of a seat, by what its reader has left
+-- that of a seat, by what its reader has left
 abbrev pub seat_of : {I O A : Type 0} → (I → Option (List ℕ)) → Seat I O A → SeatState A
 seat_of remaining seat =
     record { ends = ends remaining seat.input seat.output; result = seat.result }
@@ -25,7 +25,7 @@ seat_of remaining seat =
 abbrev pub devices_of : {A : Type 0} → SeatState A → Devices
 devices_of seat = seat.ends.devices
 
--- of a reader that has not begun, with this left to read
+-- that of a reader that has not begun, with this left to read
 abbrev pub new_seat : {A : Type 0} → Option (List ℕ) → SeatState A
 new_seat left = record {
   ends = record {

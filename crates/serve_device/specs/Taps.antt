@@ -17,6 +17,6 @@ room_of tap = reader_capacity (buffered_of tap)
 abbrev pub tap_gone : {R A : Type 0} → MessageTap R A → Bool
 tap_gone tap = tap.gone
 
--- what its reader has left, how many reads were made, and what the last was answered
+-- what its reader has left, how many reads were made, and the result of the last
 abbrev pub tap_reader : {R A : Type 0} → (R → Option (List ℕ)) → MessageTap R A → ReaderState
 tap_reader remaining tap = noted_reader (reader_remaining remaining) tap.reader

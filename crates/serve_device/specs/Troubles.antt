@@ -3,8 +3,8 @@ use Rattle.std.specs.Prelude.{ℕ, ℤ, pos, negsuc, Bool, true, Option, Some, N
 use Rattle.serve_device.specs.declared.trouble.Trouble.{Trouble}
 use Rattle.serve_device.specs.declared.trouble.Trouble.TheVariants.{Again, Unwanted, Gone, Fault}
 
--- of a read: ENOENT (2), EINTR (4), EAGAIN (11) and ECONNABORTED (103) are tried again, and ENODEV
--- (19) comes after an unmount
+-- for a read: ENOENT (2), EINTR (4), EAGAIN (11) and ECONNABORTED (103) are tried again, and ENODEV
+-- (19) means an unmount
 abbrev pub read_number : ℤ → Trouble
 read_number (pos n) =
     if n == 2 then Again else (if n == 4 then Again else
@@ -12,17 +12,17 @@ read_number (pos n) =
     (if n == 19 then Gone else Fault))))
 read_number (negsuc n) = Fault
 
--- what an error of a read says; one that has no number is a fault
+-- what an error of a read means; one without a number is a fault
 abbrev pub read_trouble : Option ℤ → Trouble
 read_trouble (Some number) = read_number number
 read_trouble None = Fault
 
--- of a write: at ENOENT (2) nobody waits for this reply, and ENODEV (19) comes after an unmount
+-- for a write: with ENOENT (2) no request waits for this reply, and ENODEV (19) means an unmount
 abbrev pub write_number : ℤ → Trouble
 write_number (pos n) = if n == 2 then Unwanted else (if n == 19 then Gone else Fault)
 write_number (negsuc n) = Fault
 
--- what an error of a write says; one that has no number is a fault
+-- what an error of a write means; one without a number is a fault
 abbrev pub write_trouble : Option ℤ → Trouble
 write_trouble (Some number) = write_number number
 write_trouble None = Fault

@@ -6,21 +6,21 @@ use Rattle.serve_device.specs.declared.answer.Answer.{Answer}
 use Rattle.serve_device.specs.declared.answer.Answer.TheVariants.{Bytes, Failure}
 use Rattle.serve_device.specs.declared.noted_writer.NotedWriter.{NotedWriter}
 
--- what it holds, if that is known, how many writes were made, and the answer to the last
+-- what it holds, if that is known, how many writes were made, and the result of the last
 pub record WriterState : Type 0 where
   pub held : Option (List ℕ)
   pub writes : ℕ
   pub last : Option Answer
 
--- the same, of its parts
+-- the same, from its parts
 abbrev pub writer_state : Option (List ℕ) → ℕ → Option Answer → WriterState
 writer_state held writes last = record { held = held; writes = writes; last = last }
 
--- of a writer, by what its inner one holds
+-- that of a writer, by what its inner one holds
 abbrev pub noted_writer : {W : Type 0} → (W → Option (List ℕ)) → NotedWriter W → WriterState
 noted_writer contents writer = writer_state (contents writer.writer) writer.writes writer.last
 
--- its inner one
+-- its inner writer
 abbrev pub inner_writer : {W : Type 0} → NotedWriter W → W
 inner_writer writer = writer.writer
 
@@ -29,7 +29,7 @@ abbrev pub AnswerAppends : Option (List ℕ) → Option (List ℕ) → Answer �
 AnswerAppends old new (Bytes n) bytes = Appends old new (take n bytes)
 AnswerAppends old new (Failure number) bytes = Keeps old new
 
--- one write was made, of these bytes, and was answered so
+-- one write was made, of these bytes, with this result
 pub record HasWritten (bytes : List ℕ) (answer : Answer) (old new : WriterState) : Type 0 where
   pub counted : new.writes ≡ up old.writes
   pub last : new.last ≡ Some answer

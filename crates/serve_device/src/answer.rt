@@ -1,10 +1,10 @@
-//! What the system answers a read or a write.
+//! What the system returns from a read or a write.
 
 ghost use Rattle.std.specs.Prelude.{◌≡◌};
 
 use std::io::Result as IoResult;
 
-/// What a read or a write was answered.
+/// The result of a read or a write.
 #[derive(Clone, Copy)]
 pub enum Answer {
     /// It read or wrote this many bytes.
@@ -16,7 +16,7 @@ pub enum Answer {
 impl Answer {
     ghost use Rattle.serve_device.specs.Answers.{answer_of};
 
-    // The answer that a read or a write gave.
+    // The answer that a read or a write returned.
     pub(crate) fn of(outcome: &IoResult<usize>) -> Answer
         ensures { result ≡ answer_of outcome.now }
     {

@@ -3,7 +3,7 @@
 ghost use Rattle.std.specs.Prelude.{◌≡◌};
 ghost use Rattle.serve_device.specs.Ends.{end_of_stop, first_told, place_of, place_of_end};
 
-use serve_core::Stop;
+use serve_core::StreamFault;
 
 /// How a reader ended, or several together.
 #[derive(Clone, Copy, PartialEq, Eq)]
@@ -12,24 +12,24 @@ pub enum End {
     AtEnd,
     /// The file system was unmounted.
     TakenAway,
-    /// It stopped for this.
-    Stopped(Stop),
+    /// It stopped for this reason.
+    Stopped(StreamFault),
 }
 
 // The end of a reader that stopped: an unmount if a read failed and its side is gone, or if a write
 // failed and either side is.
-pub(crate) fn end_of_stop(stop: Stop, input_gone: bool, output_gone: bool) -> End
-    ensures { result ≡ end_of_stop stop input_gone output_gone }
+pub(crate) fn end_of_stop(fault: StreamFault, input_gone: bool, output_gone: bool) -> End
+    ensures { result ≡ end_of_stop fault input_gone output_gone }
 {
-    let taken_away = match stop {
-        Stop::Read => input_gone,
-        Stop::Write => input_gone || output_gone,
+    let taken_away = match fault {
+        StreamFault::Read => input_gone,
+        StreamFault::Write => input_gone || output_gone,
         _ => false,
     };
     if taken_away {
         End::TakenAway
     } else {
-        End::Stopped(stop)
+        End::Stopped(fault)
     }
 }
 
@@ -49,24 +49,22 @@ fn place_of_end(end: End) -> u8
     ensures { result ≡ place_of_end end }
 {
     match end {
-        End::Stopped(stop) => place_of(stop),
-        End::TakenAway => 9,
-        End::AtEnd => 10,
+        End::Stopped(fault) => place_of(fault),
+        End::TakenAway => 7,
+        End::AtEnd => 8,
     }
 }
 
 // The rank of a fault in the table of faults and exit statuses.
-fn place_of(stop: Stop) -> u8
-    ensures { result ≡ place_of stop }
+fn place_of(fault: StreamFault) -> u8
+    ensures { result ≡ place_of fault }
 {
-    match stop {
-        Stop::Layer { .. } => 1,
-        Stop::Layers { .. } => 2,
-        Stop::Read => 3,
-        Stop::Write => 4,
-        Stop::BadLength { .. } => 5,
-        Stop::CutOff { .. } => 6,
-        Stop::Turns => 7,
-        Stop::Memory => 8,
+    match fault {
+        StreamFault::Read => 1,
+        StreamFault::Write => 2,
+        StreamFault::BadLength { .. } => 3,
+        StreamFault::CutOff { .. } => 4,
+        StreamFault::Turns => 5,
+        StreamFault::Memory => 6,
     }
 }

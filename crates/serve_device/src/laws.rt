@@ -1,4 +1,4 @@
-//! What readers come to, by what [`crate::serve_by_readers`] promises.
+//! What the results of readers mean, by what [`crate::serve_by_readers`] promises.
 
 ghost use Rattle.std.specs.Prelude.{◌≡◌, ◌<◌, ◌+◌, ◌⊎◌, ℕ, List, ◌∷◌, false, None, Some, IsPermutation};
 ghost use Rattle.std.specs.List.{AllZip, flat_map};
@@ -38,7 +38,7 @@ pub fn readers_go_on_in_the_session<A: Allocator>()
 {}
 
 /// If it has none, the first reader served alone: if its stream ended or a read failed, the
-/// messages that it got did not begin a session. No other reader began.
+/// messages that it read did not begin a session. No other reader began.
 pub fn one_ends_before_the_session<A: Allocator>()
     ensures { (first : Session) (over : Sourced) (within : Bounds)
         (old new : List (SeatState A)) → AreServedBy first (shared over within) old new None →
@@ -47,10 +47,10 @@ pub fn one_ends_before_the_session<A: Allocator>()
         × HasDone (λ result. Does (λ t. HasServedBefore first over within t result)) leader ended }
 {}
 
-/// Each reader read messages of its own, and put a beginning of the replies to them. For each node,
+/// Each reader read messages of its own, and wrote a prefix of the replies to them. For each node,
 /// the messages of all readers move what one stream of them moves, in any order, if none changes
-/// the session. Streams that end leave just what their messages moved, of the nodes whose lookups
-/// they count.
+/// the session. Streams that end leave exactly what their messages moved, for the nodes whose
+/// lookups they count.
 #[tactic(auto, using(crate::proofs::Sums::summed))]
 pub fn moves_are_summed<A: Allocator>()
     ensures read { (session : Session) (over : Sourced) (within : Bounds)

@@ -1,4 +1,4 @@
-//! A reader, and what its last read was answered.
+//! A reader, and the result of its last read.
 
 ghost use Rattle.std.specs.Prelude.{◌≡◌, ◌≤◌, length, IfOk, None};
 
@@ -6,8 +6,8 @@ use crate::answer::Answer;
 use crate::trouble::asks_again;
 use std::io::{Read, Result as IoResult};
 
-/// A reader, how many reads it was asked for, how many of these were not interrupted, and what the
-/// last one was answered. Both numbers stay at 2^64 - 1.
+/// A reader, the number of its reads, the number of those that were not interrupted, and the result
+/// of the last one. Both numbers stay at 2^64 - 1.
 #[derive(Drop)]
 pub struct NotedReader<R> {
     reader: R,
@@ -19,7 +19,7 @@ pub struct NotedReader<R> {
 impl<R: Read> NotedReader<R> {
     ghost use Rattle.serve_device.specs.Reads.{HasRead, inner_reader, noted_reader, reader_state};
 
-    /// A reader that was asked for no read so far.
+    /// A reader without reads so far.
     pub fn new(reader: R) -> NotedReader<R>
         ensures state { noted_reader R.remaining result
             ≡ reader_state (R.remaining reader) 0 0 None }
@@ -33,7 +33,7 @@ impl<R: Read> NotedReader<R> {
         }
     }
 
-    /// Reads once, and notes the answer.
+    /// Reads once, and notes the result.
     pub fn read(&mut self, into: &mut [u8]) -> IoResult<usize>
         ensures bound { IfOk result (λ n. n ≤ length into.new) }
         ensures read { HasRead into.new result

@@ -1,4 +1,4 @@
-//! A writer, and what its last write was answered.
+//! A writer, and the result of its last write.
 
 ghost use Rattle.std.specs.Prelude.{◌≡◌, ◌≤◌, length, IfOk, None};
 ghost use Rattle.std.specs.Io.KnownBytes.{Keeps};
@@ -9,8 +9,7 @@ use crate::answer::Answer;
 use devices::{Failed, Pushes};
 use std::io::{Result as IoResult, Write};
 
-/// A writer, how many writes it was asked for, which stays at 2^64 - 1, and what the last one was
-/// answered.
+/// A writer, the number of its writes, which stays at 2^64 - 1, and the result of the last one.
 #[derive(Drop)]
 pub struct NotedWriter<W> {
     writer: W,
@@ -21,7 +20,7 @@ pub struct NotedWriter<W> {
 impl<W: Write> NotedWriter<W> {
     ghost use Rattle.serve_device.specs.Writes.{HasWritten, inner_writer, noted_writer, writer_state};
 
-    /// A writer that was asked for no write so far.
+    /// A writer without writes so far.
     pub fn new(writer: W) -> NotedWriter<W>
         ensures state { noted_writer W.contents result
             ≡ writer_state (W.contents writer) 0 None }
@@ -34,7 +33,7 @@ impl<W: Write> NotedWriter<W> {
         }
     }
 
-    /// Writes once, and notes the answer.
+    /// Writes once, and notes the result.
     pub fn write(&mut self, bytes: &[u8]) -> IoResult<usize>
         ensures bound { IfOk result (λ n. n ≤ length bytes.now) }
         ensures wrote { HasWritten bytes.now (answer_of result)

@@ -24,10 +24,10 @@ use std::thread::{Threads, for_each_mut};
 ///
 /// The reader of the first seat serves alone until the session has begun. Then the others begin in
 /// that session, and each answers what it reads as [`serve_core::run_from`] does, with buffers and
-/// balances of its own. One that ends, or stops for a fault or lack of memory, ends alone: the
-/// others continue. If no thread can be started for a reader, it begins once another has ended. The
-/// result is that of the stream before the session; if the first reader ended before that, there is
-/// none, and no other has begun.
+/// balances of its own. A reader that ends, or stops for a fault or lack of memory, ends alone: the
+/// others continue. If no thread can be started for a reader, it begins after another has ended.
+/// The result is that of the stream before the session; if the first reader ended before the
+/// session began, there is none, and no other reader has begun.
 pub fn serve_by_readers<
     R: Threads + Sync,
     A: SharedAllocator,
@@ -91,7 +91,7 @@ fn serve_together<
 
 /// The end that is reported for the readers in these seats: a fault, if any has one, the first in
 /// the table of faults and exit statuses, and of equal ones that of the first reader. Otherwise an
-/// unmount, if any has met that.
+/// unmount, if any has met one.
 pub fn end_of_all<I: Read + Drop, O: Write + Drop, A: SharedAllocator>(
     seats: &[Seat<I, O, A>],
 ) -> End

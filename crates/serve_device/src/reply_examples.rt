@@ -1,4 +1,4 @@
-//! What the error numbers of an open `/dev/fuse` say, by their numbers of Linux.
+//! What the error numbers of an open `/dev/fuse` mean, by their numbers on Linux.
 
 ghost use Rattle.std.specs.Prelude.{◌≡◌, pos, Some, None};
 ghost use Rattle.serve_device.specs.Troubles.{read_trouble, write_trouble};

@@ -11,7 +11,8 @@ use crate::ends::{End, end_of_stop};
 use crate::{MessageTap, ReplySpout};
 use devices::Contents;
 use serve_core::{
-    Begun, Done, Gate, Opening, Served, SharedAllocator, Stop, Terms, Until, run_from, run_until,
+    Begun, Done, Gate, Opening, Served, SharedAllocator, StreamFault, Terms, Until, run_from,
+    run_until,
 };
 use std::alloc::{AllocError, Allocator};
 use std::io::{Read, Write};
@@ -23,12 +24,12 @@ pub struct Seat<I, O, A: Allocator> {
     input: MessageTap<I, A>,
     output: ReplySpout<O>,
     /// The result of its stream, once it ended or stopped.
-    pub result: Option<Result<Done<A>, Stop>>,
+    pub result: Option<Result<Done<A>, StreamFault>>,
 }
 
 impl<I: Read + Drop, O: Write + Drop, A: SharedAllocator> Seat<I, O, A> {
     /// A seat whose reader has not begun, with a room of 135,168 bytes for messages. `AllocError`
-    /// if memory for the room is refused; nothing was read then.
+    /// if memory for the room is refused; nothing is read then.
     pub fn new(alloc: A, reader: I, writer: O) -> Result<Self, AllocError>
         ensures { IfOk result (λ seat.
             seat_of I.remaining seat ≡ new_seat (I.remaining reader)) }
@@ -46,12 +47,12 @@ impl<I: Read + Drop, O: Write + Drop, A: SharedAllocator> Seat<I, O, A> {
     {
         match self.result {
             None | Some(Ok(_)) => End::AtEnd,
-            Some(Err(stop)) => end_of_stop(stop, self.input.is_gone(), self.output.is_gone()),
+            Some(Err(fault)) => end_of_stop(fault, self.input.is_gone(), self.output.is_gone()),
         }
     }
 
-    // Serves what its devices bring over a table and its files, on these terms, until the session
-    // has begun, and gives the session.
+    // Serves the requests from its devices over a table and its files, on these terms, until the
+    // session has begun, and returns the session.
     pub(crate) fn open<R: Threads + Sync, D: Contents + Sync, G: Gate + Sync>(
         &mut self,
         rt: &R,
@@ -69,13 +70,13 @@ impl<I: Read + Drop, O: Write + Drop, A: SharedAllocator> Seat<I, O, A> {
         let ended = match opened {
             Ok(Opening::Begun(begun)) => return Some(begun),
             Ok(Opening::Ended(done)) => Ok(done),
-            Err(stop) => Err(stop),
+            Err(fault) => Err(fault),
         };
         self.result = Some(ended);
         None
     }
 
-    // Serves what its devices bring over a table and its files, on these terms.
+    // Serves the requests from its devices over a table and its files, on these terms.
     pub(crate) fn serve<R: Threads + Sync, D: Contents + Sync, G: Gate + Sync>(
         &mut self,
         rt: &R,
@@ -94,7 +95,7 @@ impl<I: Read + Drop, O: Write + Drop, A: SharedAllocator> Seat<I, O, A> {
 }
 
 /// Seats for this many readers that have not begun, all over the same reader and writer.
-/// `AllocError` if memory is refused for one; nothing was read then.
+/// `AllocError` if memory is refused for one; nothing is read then.
 pub fn seats_over<I: Read + Copy + Drop, O: Write + Copy + Drop, A: SharedAllocator>(
     alloc: A,
     readers: u32,

@@ -16,14 +16,14 @@ use std::io::Write;
 /// A reply's header.
 const HEADER_SIZE: usize = 16;
 
-/// A sink over a writer that takes one complete reply a write.
+/// A sink over a writer that takes one complete reply per write.
 ///
 /// A push takes the first complete reply of its bytes, by the length in its first four bytes, in
-/// one write, and no more. If the writer takes less of it, the push says how much. A reply for
-/// which nobody waits any more (a write answered ENOENT) is dropped: it counts as taken, since the
-/// kernel knows no such request. What the other side holds is therefore not known. A push fails if
-/// its bytes do not begin with a complete reply, or at any other error of a write, also an
-/// interrupted one: nothing was taken then. There is no buffer and no copy.
+/// one write, and no more. If the writer takes less of it, the push returns how much. A reply that
+/// no request waits for any more (a write answered with ENOENT) is dropped: it counts as taken,
+/// since the kernel knows no such request. What the other side holds is therefore not known. A push
+/// fails if its bytes do not begin with a complete reply, or at any other error of a write,
+/// including an interrupted one; it takes nothing then. There is no buffer and no copy.
 #[derive(Drop)]
 pub struct ReplySpout<W> {
     writer: NotedWriter<W>,
@@ -36,7 +36,7 @@ impl<W: Write> ReplySpout<W> {
     ghost use Rattle.serve_device.specs.Spouts.{spout_gone, spout_writer, writer_of};
     ghost use Rattle.serve_device.specs.Writes.{writer_state};
 
-    /// A sink to which nothing was pushed so far, over this writer.
+    /// A sink over this writer, without pushes so far.
     pub fn new(writer: W) -> ReplySpout<W>
         ensures state { ⟦<ReplySpout<W> as Sink>⟧.state result ≡ sink_state None no_pushes }
         ensures over { writer_of result ≡ writer }
@@ -51,7 +51,8 @@ impl<W: Write> ReplySpout<W> {
         }
     }
 
-    /// Whether a push failed because of an unmount: a write answered ENODEV. It stays so.
+    /// Whether a push failed because of an unmount: a write returned ENODEV. Once true, it stays
+    /// true.
     pub fn is_gone(&self) -> bool
         ensures gone { result ≡ spout_gone self.now }
         ensures failed { IsTrue result
@@ -104,8 +105,8 @@ impl<W: Write> Sink for ReplySpout<W> {
     }
 }
 
-// Writes the first reply of the bytes, once, and says how much of it is finished: all of it, if
-// nobody waits for it.
+// Writes the first reply of the bytes, once, and returns how much of it is finished: all of it, if
+// no request waits for it.
 fn write_first<W: Write>(writer: &mut NotedWriter<W>, bytes: &[u8]) -> Result<usize, Trouble>
     ensures first { IfOk result (IsWithinFirst bytes.now) }
     ensures put { Writes bytes.now result (noted_writer W.contents writer.old)
@@ -120,7 +121,7 @@ fn write_first<W: Write>(writer: &mut NotedWriter<W>, bytes: &[u8]) -> Result<us
     }
 }
 
-// Drops a reply of this length if nobody waits for it.
+// Drops a reply of this length if no request waits for it.
 fn let_go(len: usize, trouble: Trouble) -> Result<usize, Trouble>
     ensures { result ≡ after_trouble len trouble }
 {

@@ -17,16 +17,16 @@ use std::io::{BufReader, Read};
 /// bytes if a write may have 128 KiB of data.
 const ROOM: usize = 135_168;
 
-/// How often a pull reads at most.
+/// The most reads of a pull.
 const TRIES: u32 = 1024;
 
-/// A source over a reader that gives one complete message a read.
+/// A source over a reader that returns one complete message per read.
 ///
-/// A pull gives what the room holds of the last message. If it holds nothing, the pull reads once,
-/// and again while that is interrupted (EINTR, EAGAIN, ENOENT, ECONNABORTED), at most 1,024 times.
-/// It reads into a room of 135,168 bytes, or straight into the pull's own if that is at least as
-/// large. What does not fit stays for the next pull. A read of no byte is the end, and any other
-/// error fails the pull. Pulls take no memory.
+/// A pull returns what the room holds of the last message. If the room is empty, the pull reads
+/// once, and again as long as the read is interrupted (EINTR, EAGAIN, ENOENT, ECONNABORTED), at
+/// most 1,024 times. It reads into a room of 135,168 bytes, or straight into the pull's own buffer
+/// if that is at least as large. What does not fit stays for the next pull. A read of no bytes is
+/// the end, and any other error fails the pull. Pulls take no memory.
 #[derive(Drop)]
 pub struct MessageTap<R, A: Allocator> {
     reader: NotedReader<BufReader<R, A>>,
@@ -39,7 +39,7 @@ impl<R: Read + Drop, A: Allocator> MessageTap<R, A> {
     ghost use Rattle.serve_device.specs.Taps.{room_of, tap_gone};
 
     /// A source of the reader's remaining bytes, not pulled yet, with its room. `AllocError` if
-    /// memory for the room is refused; nothing was read then, and the reader is dropped.
+    /// memory for the room is refused; nothing is read then, and the reader is dropped.
     pub fn new(alloc: A, reader: R) -> Result<MessageTap<R, A>, AllocError>
         ensures state { IfOk result (λ tap. ⟦<MessageTap<R, A> as Source>⟧.state tap
             ≡ source_state (R.remaining reader) no_pulls) }
@@ -56,7 +56,8 @@ impl<R: Read + Drop, A: Allocator> MessageTap<R, A> {
         }
     }
 
-    /// Whether a pull failed because of an unmount: a read answered ENODEV. It stays so.
+    /// Whether a pull failed because of an unmount: a read returned ENODEV. Once true, it stays
+    /// true.
     pub fn is_gone(&self) -> bool
         ensures gone { result ≡ tap_gone self.now }
         ensures failed { IsTrue result
@@ -94,7 +95,7 @@ impl<R: Read, A: Allocator> Source for MessageTap<R, A> {
     }
 }
 
-// Reads once, and again while that is interrupted.
+// Reads once, and again as long as the read is interrupted.
 fn read_again<R: Read>(reader: &mut NotedReader<R>, into: &mut [u8]) -> Result<usize, Trouble>
     ensures bound { IfOk result (λ n. n ≤ length into.new) }
     ensures bytes { ReadConsumes (noted_reader R.remaining reader.old).left

@@ -1,4 +1,4 @@
-//! What the errors of the device say. The numbers are Linux's.
+//! What the errors of the device mean. The numbers are Linux's.
 
 ghost use Rattle.std.specs.Prelude.{◌≡◌};
 ghost use Rattle.std.specs.IoError.{raw_os_error};
@@ -12,15 +12,15 @@ use std::io::{Error, Result as IoResult};
 pub(crate) enum Trouble {
     /// It was interrupted, and may be tried again.
     Again,
-    /// Nobody waits for this reply.
+    /// No request waits for this reply.
     Unwanted,
     /// The kernel has ended the connection.
     Gone,
-    /// It is any other fault.
+    /// Any other fault.
     Fault,
 }
 
-// What an error of a read means: ENOENT (2, the request was given up as it was read), EINTR (4),
+// What an error of a read means: ENOENT (2, the request was aborted while it was read), EINTR (4),
 // EAGAIN (11) and ECONNABORTED (103, the connection ended meanwhile) are tried again, and ENODEV
 // (19) means an unmount.
 pub(crate) fn trouble_of_read(error: &Error) -> Trouble
@@ -43,8 +43,8 @@ pub(crate) fn asks_again(outcome: &IoResult<usize>) -> bool
     }
 }
 
-// What an error of a write means: at ENOENT (2) nobody waits for this reply any more, for instance
-// because its request was interrupted, and ENODEV (19) means an unmount.
+// What an error of a write means: with ENOENT (2) no request waits for this reply any more, for
+// instance because it was interrupted, and ENODEV (19) means an unmount.
 pub(crate) fn trouble_of_write(error: &Error) -> Trouble
     ensures { result ≡ write_trouble (raw_os_error error.now) }
 {

@@ -9,14 +9,14 @@ ghost use Rattle.serve_device.specs.Reads.{PullsMessage, ReaderState};
 ghost use Rattle.serve_device.specs.Writes.{WriterState};
 ghost use Rattle.serve_device.specs.declared.answer.Answer.TheVariants.{Bytes, Failure};
 
-/// Bytes begin with one reply at most, so what is within the first one is within each.
+/// Bytes begin with at most one reply, so what is within the first one is within each.
 pub fn within_one_reply()
     ensures { (bytes : List ℕ) (taken n : ℕ) →
         IsWithinFirst bytes taken → BeginsReply bytes n → taken ≤ n }
 {}
 
-/// A push that counts bytes as taken wrote once: the writer took this many, or answered ENOENT (2).
-/// If it leaves its sink gone, the answer was ENODEV (19).
+/// A push that counts bytes as taken wrote once: the writer took this many, or returned ENOENT (2).
+/// If it leaves its sink gone, the writer returned ENODEV (19).
 #[tactic(auto, using(crate::proofs::Told::done_push, crate::proofs::Told::gone_push))]
 pub fn pushes_write()
     ensures taken { (bytes : List ℕ) (n : ℕ) (old new : WriterState) (was is : Bool) →
@@ -26,8 +26,8 @@ pub fn pushes_write()
         PutsReply bytes result old new false true → new.last ≡ Some (Failure (Some (pos 19))) }
 {}
 
-/// A pull that gave bytes, or the end, took that from its last read. If it leaves its source gone,
-/// that read was answered ENODEV (19).
+/// A pull that returned bytes, or the end, took that from its last read. If it leaves its source
+/// gone, that read returned ENODEV (19).
 #[tactic(auto, using(crate::proofs::Told::done_pull, crate::proofs::Told::gone_pull))]
 pub fn pulls_read()
     ensures given { (n : ℕ) (old new : ReaderState) (was is : Bool) →

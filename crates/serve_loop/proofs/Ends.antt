@@ -48,7 +48,7 @@ module _ {A : Type 0} (by : Answering) (nodes turns : ℕ) (t : Trace) where
     cut = r.stopped.1;
   }
 
-  -- a run that ends with `Read` has answered all messages that came before the failure
+  -- a run that ends with `Read` has answered all messages before the failure
   pub well_at_read : IsRun {A = A} by nodes turns t (Err Read) → HasFailed by t
   well_at_read r = record {
     failed = r.stopped.0;
@@ -57,7 +57,7 @@ module _ {A : Type 0} (by : Answering) (nodes turns : ℕ) (t : Trace) where
     answered = answered by t r.messages r.rest r.split r.stopped.1;
   }
 
-  -- a run that ends with `Turns` has made all its pulls, and answered all messages that came
+  -- a run that ends with `Turns` has made all its pulls, and answered all messages that arrived
   pub well_at_turns : IsRun {A = A} by nodes turns t (Err Turns) → HasUsedTurns by turns t
   well_at_turns r = record {
     pulls = r.stopped.0;
@@ -67,7 +67,7 @@ module _ {A : Type 0} (by : Answering) (nodes turns : ℕ) (t : Trace) where
     good = r.stopped.1;
   }
 
-  -- at every end what was put is the beginning of the replies
+  -- at every end what was put is a prefix of the replies
   pub front : (result : Result (Done A) StreamFault) → IsRun by nodes turns t result → IsFront by t
   front result r = record { messages = r.messages; rest = r.rest; split = r.split; begun = r.begun }
 
@@ -82,7 +82,7 @@ module _ {A : Type 0} (by : Answering) (nodes turns : ℕ) (t : Trace) where
   all_flushed result messages rest r s = subst (λ m. HaveReplies by m (flushed_bytes t))
       (one_split (before t) r.prompt.messages messages r.prompt.rest rest r.prompt.split s).0 r.prompt.told
 
--- a count rose by one where the result says so, and nowhere else
+-- a count rose by one exactly if the result says so
 read_told : {A : Type 0} (r : Result (Done A) StreamFault) (old new : ℕ) → new ≡ old + read_failures r → (r ≡ Err Read) ↔ (new ≡ old + 1)
 read_told (Err Read) old new e = (λ _. e, λ _. refl)
 read_told _ old new e = (λ q. absurd (cc), λ f. absurd (omega arith))
@@ -94,11 +94,11 @@ write_told _ old new e = (λ q. absurd (cc), λ f. absurd (omega arith))
 module _ {A : Type 0} (by : Answering) (nodes turns : ℕ) (t : Trace) (result : Result (Done A) StreamFault)
     (r : IsRun by nodes turns t result)
   where
-    -- a run ends with `Read` exactly where the source failed once in it
+    -- a run ends with `Read` exactly if the source failed once in it
     pub read_is_exact : (result ≡ Err Read) ↔ (t.source.failures ≡ t.source_before.failures + 1)
     read_is_exact = read_told result t.source_before.failures t.source.failures r.counted.read
 
-    -- a run ends with `Write` exactly where the sink failed once in it
+    -- a run ends with `Write` exactly if the sink failed once in it
     pub write_is_exact : (result ≡ Err Write) ↔ (t.sink.failures ≡ t.sink_before.failures + 1)
     write_is_exact = write_told result t.sink_before.failures t.sink.failures r.counted.write
 

@@ -1,5 +1,6 @@
--- A stream that is served to its end, or until its session has begun. If requested, the session had not begun before the last pull, nor has
--- it now, if more is awaited (`IsAwaiting`); after a pull that gave bytes it had not before (`IsFollowed`). Each other lemma is an end.
+-- A stream that is served to its end, or until its session has begun. If that was asked for, the session had not begun before the last
+-- pull, nor has it now, if more is awaited (`IsAwaiting`); after a pull that gave bytes it had not begun before (`IsFollowed`). Each other
+-- lemma is an end.
 use Rattle.std.proofs.Common.{◌≡◌, ◌==◌, ◌∙◌, ap, sym, subst, refl, ℕ, ◌+◌, ◌^◌, ◌<◌, ◌≤◌, ◌⊎◌, inl, inr, ℤ, Bool, true, false, true≢false, List, [], ◌∷◌, ◌++◌, length, map, append-nil, Option, Result, Ok, Err, IsErrAnd, arith}
 use Rattle.std.specs.Io.KnownBytes.{Appends, Consumes}
 use Rattle.std.proofs.KnownBytes.{Appends-nil, Appends-trans, Consumes-nil, Consumes-trans}
@@ -33,12 +34,12 @@ abbrev pub as_opening : {A : Type 0} → Result (Done A) StreamFault → Result 
 as_opening (Ok done) = Ok (openings.Ended done)
 as_opening (Err fault) = Err fault
 
--- more is awaited: a part of a message is left, or the session is not begun, or nothing came yet
+-- more is awaited: a part of a message is left, or the session has not begun, or nothing has arrived yet
 abbrev pub IsWaiting : ServingState → Type 0
 IsWaiting v = (0 < length v.rest) ⊎ ((is_fresh v.session ≡ true) ⊎ (v.messages ≡ 0))
 
 module _ (by : Answering) where
-  -- where nothing came, no session has begun
+  -- if nothing arrived, no session has begun
   pub nothing_begun : (bytes : List ℕ) → bytes ≡ [] → HasNotBegun by bytes
   nothing_begun bytes e = record {
     fresh = λ messages whole some. (
@@ -47,7 +48,7 @@ module _ (by : Answering) where
         absurd (omega arith));
   }
 
-  -- where more is awaited, no session has begun
+  -- if more is awaited, no session has begun
   pub waits_on : (nodes turn : ℕ) (t : Trace) (v : ServingState) (ms : List (List ℕ)) → IsRunning by nodes turn t v ms → IsWaiting v
       → HasNotBegun by t.got
   waits_on nodes turn t v ms r w = record {
@@ -61,7 +62,7 @@ module _ (by : Answering) where
         ]);
   }
 
-  -- where answering stopped, it had not before the last pull
+  -- if answering stopped, the session had not begun before the last pull
   pub not_at_halt : (A : Type 0) (t : Trace) (fault : StreamFault) → IsHalt fault → HasNotBegun by (before t)
       → WasNotBegun {A = A} by t (Err fault)
   not_at_halt A t Write h earlier = earlier
@@ -71,7 +72,7 @@ module _ (by : Answering) where
   not_at_halt A t (BadLength at len) h earlier = absurd h
   not_at_halt A t (CutOff at) h earlier = absurd h
 
-  -- where the session of a stream that began in a fresh one has begun, what was got says so
+  -- if the session of a stream that began in a fresh one has begun, what was got says so
   pub begun_or_not : {A : Type 0} (nodes turns : ℕ) (t : Trace) (begun : Begun A) → is_fresh by.first ≡ true
       → HasBegun by nodes turns t begun → ¬ HasNotBegun by t.got
   begun_or_not nodes turns t begun new b not = cases b.messages b.answered.split (ap is_fresh (sym b.session_is) ∙ b.ready)
@@ -80,7 +81,7 @@ module _ (by : Answering) where
       cases [] whole old = true≢false (sym new ∙ old)
       cases (m ∷ ms) whole old = true≢false (sym (not.fresh (m ∷ ms) whole (omega arith)) ∙ old)
 
--- it was served as far as it was to be, where its session had not begun if that was to end it
+-- it was served as far as it should be: if the beginning of a session was to end it, no session had begun
 served_until : {A : Type 0} (until : Until) (by : Answering) (nodes turns : ℕ) (t : Trace) (result : Result (Done A) StreamFault)
     → IsRun by nodes turns t result → (until ≡ wanted.Begun → WasNotBegun by t result)
     → IsServedUntil until by nodes turns t (as_opening result)
@@ -227,7 +228,7 @@ module _ (by : Answering) (nodes : ℕ) (until : Until) (old : Devices) where
           → IsSmall nodes (record v { rest = rest })
       follows_small f small = feeds_small by nodes old turn turns now v a.served source kept rest ready h same f.served small
 
-  -- what is whole of the bytes that came
+  -- the complete messages in the bytes that arrived
   module _ (turn turns : ℕ) (now : Devices) (v : ServingState) (f : IsFollowed turn now v) where
     -- answering it stopped
     pub over_for_halt : (A : Type 0) (sink : SinkState) (fault : StreamFault) → turn < turns → StopsShort by v now.sink sink fault

@@ -1,6 +1,5 @@
--- Parts of a buffer, from its start to its end: some of their first bytes are let go (`passed`),
--- and a pull puts bytes behind them (`held_grown`) or none (`held_unchanged`), while the bytes
--- before the end stay.
+-- Parts of a buffer, from its start to its end: some of their first bytes are removed (`passed`), and a pull adds bytes after them
+-- (`held_grown`) or none (`held_unchanged`), while the bytes before the end stay.
 use Rattle.std.proofs.Common.{◌≡◌, ◌∙◌, sym, ap, ℕ, ◌+◌, ◌-◌, ◌≤◌, List, [], ◌++◌, append-nil, length, take, drop, arith, length-take, length-drop}
 use Rattle.std.proofs.Math.Seq.{take-add}
 use Rattle.std.proofs.lemmas.List.{drop-take, drop-drop}
@@ -10,7 +9,7 @@ use Rattle.serve_loop.specs.Buffers.{part}
 part_length : (xs : List ℕ) (s e : ℕ) → length (part xs s e) ≤ e - s
 part_length xs s e = let l = length-take (e - s) (drop s xs) in omega arith
 
--- where the start goes on by n bytes, the part has lost its first n
+-- if the start advances by n bytes, the part has lost its first n
 pub passed : (xs : List ℕ) (s n e : ℕ) → n ≤ length (part xs s e) → part xs (s + n) e ≡ drop n (part xs s e)
 passed xs s n e h =
     let l = part_length xs s e in
@@ -24,7 +23,7 @@ same_part old new s e h q =
     sym (drop-take s (e - s) new) ∙ ap (λ n. drop s (take n new)) k ∙ ap (drop s) q ∙ sym (ap (λ n. drop s (take n old)) k)
     ∙ drop-take s (e - s) old
 
--- bytes that come behind a part
+-- bytes that come after a part
 grown : (old new : List ℕ) (s e n : ℕ) → s ≤ e → take e new ≡ take e old → part new s (e + n) ≡ part old s e ++ take n (drop e new)
 grown old new s e n h q =
     let k : e + n - s ≡ (e - s) + n = omega arith in
@@ -35,16 +34,16 @@ grown old new s e n h q =
     ∙ ap (λ v. part new s e ++ take n v) d
     ∙ ap (λ v. v ++ take n (drop e new)) (same_part old new s e h q)
 
--- and where none come
+-- and if none come
 unchanged : (old new : List ℕ) (s e : ℕ) → s ≤ e → take e new ≡ take e old → part new s e ≡ part old s e ++ []
 unchanged old new s e h q = same_part old new s e h q ∙ sym (append-nil (part old s e))
 
--- where the end goes on by n bytes, the part has got those n that stand behind it
+-- if the end advances by n bytes, the part has gained the n bytes after it
 pub held_grown : (old new kept : List ℕ) (s e n : ℕ) → kept ≡ new → s ≤ e → take e new ≡ take e old → part kept s (e + n) ≡ part old s e
     ++ take n (drop e new)
 held_grown old new kept s e n k h q = ap (λ xs. part xs s (e + n)) k ∙ grown old new s e n h q
 
--- where no bytes come behind it, the part is as it was
+-- if no bytes are added after it, the part is unchanged
 pub held_unchanged : (old new kept : List ℕ) (s e : ℕ) → kept ≡ new → s ≤ e → take e new ≡ take e old → part kept s e ≡ part old s e ++ []
 held_unchanged old new kept s e k h q = ap (λ xs. part xs s e) k ∙ unchanged old new s e h q
 

@@ -1,6 +1,6 @@
--- A stream, round by round. `goes_further` is the main lemma: states that go on to one another by
--- rounds (`goes_round`), their replies flushed, go on as by one; counts stay small meanwhile
--- (`small_on`). `halts_further` is the same where answering stops in the last round.
+-- A stream, round by round. `goes_further` is the main lemma: states that lead to one another by rounds (`goes_round`), their replies
+-- flushed, lead to one another as by one; counts stay small meanwhile (`small_on`). `halts_further` is the same if answering stops in the
+-- last round.
 use Rattle.std.proofs.Common.{◌≡◌, ◌∙◌, sym, ap, subst, ℕ, ◌+◌, ◌*◌, ◌<◌, ◌≤◌, ◌^◌, inl, inr, ℤ, List, [], ◌∷◌, ◌++◌, length, drop, map, refl, arith, append_assoc, length-append, Result, Ok, Err, IsErrAnd, IfErr}
 use Rattle.std.specs.List.{AllByRecursion}
 use Rattle.std.proofs.KnownBytes.{Appends-nil, Appends-trans}
@@ -28,7 +28,7 @@ pub joined_long : (ms : List (List ℕ)) → AllByRecursion IsMessage ms → len
 joined_long [] e = omega arith
 joined_long (m ∷ ms) e = let k = joined_long ms e.1 in let g = e.0.good.0 in let l = length-append m (joined ms) in omega arith
 
--- where nothing is put, nothing waits to be flushed that did not wait before
+-- if nothing is put, nothing waits to be flushed that did not wait before
 pub flushed_none : (p : Pushes) → HasFlushed [] p p
 flushed_none p = record { failures = refl; flushed = inl (refl, refl) }
 
@@ -78,7 +78,7 @@ from_memory (Ok x) Q i q = absurd i
 from_memory (Err fault) Q i q = subst Q (sym i) q
 
 module _ (by : Answering) where
-  -- a state goes on to itself by no messages
+  -- a state leads to itself by no messages
   pub goes_nowhere : (v : ServingState) → Goes by v v [] []
   goes_nowhere v = record {
     taken = refl;
@@ -89,8 +89,7 @@ module _ (by : Answering) where
     written = omega arith;
   }
 
-  -- a state that goes on to another, and that to a third, goes on to the third by the messages and
-  -- replies of both
+  -- a state that leads to another, and that to a third, leads to the third by the messages and replies of both
   pub goes_further : (a b c : ServingState) (ms ns : List (List ℕ)) (put more : List ℕ) → Goes by a b ms put → Goes by b c ns more
       → Goes by a c (ms ++ ns) (put ++ more)
   goes_further a b c ms ns put more g h =
@@ -108,7 +107,7 @@ module _ (by : Answering) where
         written = (let x = g.written in let y = h.written in let l = length-append put more in omega arith);
       }
 
-  -- where nothing is answered nothing is handed on
+  -- if nothing is answered nothing is handed on
   pub proceeds_nowhere : (v : ServingState) (k : SinkState) → Proceeds by v v k k
   proceeds_nowhere v k = record {
     messages = [];
@@ -118,7 +117,7 @@ module _ (by : Answering) where
     flushed = flushed_none _;
   }
 
-  -- messages that are answered and then others, the replies of both handed on, are all answered
+  -- messages that are answered and then others, with the replies of both put, are all answered
   pub proceeds_further : (a b c : ServingState) (k l m : SinkState) → Proceeds by a b k l → Proceeds by b c l m → Proceeds by a c k m
   proceeds_further a b c k l m p q = record {
     messages = p.messages ++ q.messages;
@@ -128,7 +127,7 @@ module _ (by : Answering) where
     flushed = flushed_on _ _ _ p.put q.put p.flushed q.flushed;
   }
 
-  -- a state goes on by the messages of a round and the bytes that it answers
+  -- a state advances by the messages of a round and the bytes that it answers
   pub goes_round : (from : ServingState) (round : RoundEnd) (put rest : List ℕ) (new : List ℤ) (at messages written : ℕ) →
       (r : IsRound by from.session from.rest round put (record { old = from.balances; new = new })) →
       rest ≡ drop round.used from.rest → at ≡ from.at + round.used → messages ≡ from.messages + round.messages → written ≡ from.written
@@ -144,13 +143,13 @@ module _ (by : Answering) where
     written = w;
   }
 
-  -- a round in which no message was whole
+  -- a round in which no message was complete
   module _ (from : ServingState) (round : RoundEnd) (put : List ℕ) (new : List ℤ) (r : IsRound by from.session from.rest round put
       (record { old = from.balances; new = new })) (z : round.messages ≡ 0) where
     none : r.messages ≡ []
     none = no_messages r.messages (sym r.count ∙ z)
 
-    -- the state goes on by no messages, to the balances that the round left
+    -- the state advances by no messages, to the balances that the round left
     pub goes_idle : Goes by from (record from { balances = new }) [] []
     goes_idle =
         let a = subst (λ (ms : List (List ℕ)). AreAnswered by from.session ms round.session put (record { old = from.balances; new = new }))
@@ -164,7 +163,7 @@ module _ (by : Answering) where
           written = omega arith;
         }
 
-    -- no message stands at the front of the bytes that the round was given
+    -- no message is at the front of the bytes that the round was given
     pub at_rest : IsRest from.rest
     at_rest = elim r.some [
       | inl h ↦ (let l = ap length none in absurd (omega arith))
@@ -192,7 +191,7 @@ module _ (by : Answering) where
             from.balances to.balances s.balanced g.answered.moves));
       }
 
-  -- where a message is answered, fewer bytes are left
+  -- if a message is answered, fewer bytes are left
   pub shorter : (from to : ServingState) (ms : List (List ℕ)) (put : List ℕ) → Goes by from to ms put → 0 < length ms
       → length to.rest < length from.rest
   shorter from to ms put g h = let j = joined_long ms g.each in let t = ap length g.taken ∙ length-append (joined ms) to.rest in omega arith
@@ -212,7 +211,7 @@ module _ (by : Answering) where
     late = omega arith;
   }
 
-  -- a sink that fails in a round has taken the beginning of its replies
+  -- a sink that fails in a round has taken a prefix of its replies
   pub halts_late : (from : ServingState) (round : RoundEnd) (all put rest : List ℕ) (new : List ℤ) (p q : Pushes) →
       (r : IsRound by from.session from.rest round all (record { old = from.balances; new = new })) → all ≡ put ++ rest
       → q.failures ≡ p.failures + 1 → q.unflushed ≤ p.unflushed + length put →
@@ -230,7 +229,7 @@ module _ (by : Answering) where
     late = l;
   }
 
-  -- where a state goes on to another and answering stops there, it stops for the first one
+  -- if a state leads to another and answering stops there, it stops for the first one
   pub halts_further : (a b : ServingState) (p q r : Pushes) (fault : StreamFault) (ms : List (List ℕ)) (put more : List ℕ)
       → Goes by a b ms put → HasFlushed put p q → Halts by b q r fault more → Halts by a p r fault (put ++ more)
   halts_further a b p q r fault ms put more g h k = record {

@@ -20,7 +20,7 @@ use Rattle.serve_loop.specs.Steps.{ServingState, IsSmall, Goes, Halts, sink_fail
 use Rattle.serve_loop.proofs.Rounding.{goes_further, goes_nowhere, not_late}
 use Rattle.serve_loop.proofs.Traces.{start, untouched, pulled_on, pushed_on, IsLow, IsRunning, IsFed, some_counted, end_counted, failure_counted, take_none, take_whole, all_but_last, flushed_late, flushed_more, all_begun, no_bytes, unfinished, zero_more, from_nothing}
 
--- replies to all messages that were put whole are begun
+-- replies to all messages that were put in full are begun
 all_put : (by : Answering) (ms : List (List ℕ)) (put : List ℕ) → AreRepliesTo by ms put → BeginReplies by ms put
 all_put by ms put are = record {
   answered = ms;
@@ -176,7 +176,7 @@ module _ (by : Answering) (nodes : ℕ) where
         write = r.write ∙ zero_more _ ∙ ap (λ k. t.sink_before.failures + k) (sym w);
       }
 
-      -- where nothing is left the run ends with `Ok`, and its counts and balances are those of the
+      -- if nothing is left the run ends with `Ok`, and its counts and balances are those of the
       -- messages
       pub ends_clean : {A : Type 0} (done : Done A) → v.rest ≡ [] → done.messages ≡ v.messages → done.written ≡ v.written
           → done.balances.items ≡ v.balances → IsRun by nodes turns (pulled_on t new x) (Ok done)
@@ -199,7 +199,7 @@ module _ (by : Answering) (nodes : ℕ) where
         counted = counted (Ok done) refl refl refl;
       }
 
-      -- where bytes are left the run ends with `CutOff` at the place where they begin
+      -- if bytes are left the run ends with `CutOff` at the place where they begin
       pub ends_cut : {A : Type 0} → (v.rest ≡ [] → ⊥) → IsRun {A = A} by nodes turns (pulled_on t new x) (Err (CutOff v.at))
       ends_cut {A} e = record {
         messages = ms;
@@ -256,7 +256,7 @@ module _ (by : Answering) (nodes : ℕ) where
       got_before = ap (λ s. all_but (last_size s) (t.got ++ x)) bytes_counted.3
           ∙ ap (λ j. all_but j (t.got ++ x)) (sym l) ∙ all_but_last t.got x
 
-      -- its bytes stand behind what was left, and earlier replies are flushed
+      -- its bytes follow what was left, and earlier replies are flushed
       pub fed : (rest : List ℕ) → n ≤ PULL_SIZE → rest ≡ v.rest ++ x → IsFed by nodes turn (pulled_on t new x) (record v { rest = rest }) ms
       fed rest m z =
           let a = r.pulls in let b = r.ends in let d = r.read in let k = bytes_counted in let u = k.0 in let o = k.1 in let i = k.2 in
@@ -292,7 +292,7 @@ module _ (by : Answering) (nodes : ℕ) where
           told = record { replies = t.put; are = f.goes.answered.told; begin = b };
         }
 
-    -- all that is whole is answered
+    -- everything complete is answered
     module _ (w : ServingState) (ns : List (List ℕ)) (new : Pushes) (more : List ℕ) (g : Goes by v w ns more)
         (p : HasFlushed more t.sink new) where
       on : Goes by (start by.first nodes t.got) w (ms ++ ns) (t.put ++ more)
@@ -301,7 +301,7 @@ module _ (by : Answering) (nodes : ℕ) where
       all_flushed : flushed_bytes (pushed_on t new more) ≡ t.put ++ more
       all_flushed = flushed_more t.sink new t.put more f.flushed_all p
 
-      -- where what is left is no bad length, the next turn may begin
+      -- if what is left is not a bad length, the next turn may begin
       pub went_round : IsOpen w.rest → IsRunning by nodes (turn + 1) (pushed_on t new more) w (ms ++ ns)
       went_round o = record {
         goes = on;
@@ -315,8 +315,7 @@ module _ (by : Answering) (nodes : ℕ) where
         write = p.failures ∙ f.write;
       }
 
-      -- where what is left says a bad length, the run ends with `BadLength` at the place where it
-      -- begins
+      -- if what is left states a bad length, the run ends with `BadLength` at the place where it begins
       pub ends_bad : {A : Type 0} (turns len : ℕ) → IsBad w.rest len → turn < turns → IsRun {A = A} by nodes turns (pushed_on t new more)
           (Err (BadLength w.at len))
       ends_bad turns len b h = record {
@@ -381,7 +380,7 @@ module _ (by : Answering) (nodes : ℕ) where
             };
           }
 
-      -- the run ends with `Write` or `Memory`, and what was put is the beginning of the replies
+      -- the run ends with `Write` or `Memory`, and what was put is a prefix of the replies
       pub ends_halt : {A : Type 0} (turns : ℕ) (fault : StreamFault) → Halts by v t.sink new fault more → turn < turns
           → IsRun {A = A} by nodes turns (pushed_on t new more) (Err fault)
       ends_halt turns Write h lt = halts turns Write h lt (λ a b. tt) refl refl refl
@@ -391,7 +390,7 @@ module _ (by : Answering) (nodes : ℕ) where
       ends_halt turns (BadLength at len) h lt = absurd h.halt
       ends_halt turns (CutOff at) h lt = absurd h.halt
 
--- counts that are small stay so as bytes come
+-- counts that are small stay so as bytes arrive
 pub small_fed : (by : Answering) (nodes turn : ℕ) (t : Trace) (v : ServingState) (rest : List ℕ) (ms : List (List ℕ))
     → IsFed by nodes turn t (record v { rest = rest }) ms → IsSmall nodes v → turn < 2 ^ 40 → IsSmall nodes (record v { rest = rest })
 small_fed by nodes turn t v rest ms f s h = record {

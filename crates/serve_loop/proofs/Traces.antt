@@ -1,6 +1,5 @@
--- What a trace keeps, turn by turn: `IsRunning` is what holds before each turn, `IsFed` what holds
--- after a pull that gave bytes. Before them, lists and what of them is flushed; after them, what a
--- pull counts, and the state that serving begins with.
+-- What a trace keeps, turn by turn: `IsRunning` is what holds before each turn, `IsFed` what holds after a pull that gave bytes. Before
+-- them, lists and how much of them is flushed; after them, what a pull counts, and the state with which serving begins.
 use Rattle.std.proofs.Common.{unsigned_abs, lit≤, ◌≡◌, ◌∙◌, sym, ap, subst, ℕ, zero, suc, ◌+◌, ◌-◌, ◌*◌, ◌^◌, ◌<◌, ◌≤◌, ◌==◌, inl, inr, ℤ, pos, Bool, true, false, List, [], ◌∷◌, ◌++◌, length, take, replicate, min, refl, arith, length-append, append-nil, length-take, Ok, Err, Some, cond, if◌then◌else◌}
 use Rattle.std.proofs.Math.Dec.{eqb-suc-zero}
 use Rattle.std.proofs.lemmas.List.{take_at}
@@ -40,7 +39,7 @@ take_whole xs = ap (λ n. take n xs) (let e : length xs - 0 ≡ length xs = omeg
 pub all_but_last : (got x : List ℕ) → all_but (length x) (got ++ x) ≡ got
 all_but_last got x = take_at got x _ (let l = length-append got x in omega arith)
 
--- where all was flushed, it stays the beginning of what is flushed as more is put
+-- if all was flushed, it stays a prefix of what is flushed as more is put
 pub flushed_late : (put more : List ℕ) (u v : ℕ) → all_but u put ≡ put → v ≤ u + length more → Begins put (all_but v (put ++ more))
 flushed_late [] more u v e h = record { more = all_but v more; is = refl }
 flushed_late (p ∷ put) more u v e h =
@@ -50,7 +49,7 @@ flushed_late (p ∷ put) more u v e h =
     let w = length-append (p ∷ put) more in
     begins_take (p ∷ put) more _ (omega (arith, w, z, h))
 
--- where all that was put is flushed, and so is what is put then, all is flushed
+-- if all that was put is flushed, and so is what is put then, all is flushed
 pub flushed_more : (p q : Pushes) (put more : List ℕ) → all_but p.unflushed put ≡ put → HasFlushed more p q
     → all_but q.unflushed (put ++ more) ≡ put ++ more
 flushed_more p q put more e s = elim s.flushed [
@@ -59,7 +58,7 @@ flushed_more p q put more e s = elim s.flushed [
   | inr z ↦ ap (λ u. all_but u (put ++ more)) z ∙ take_whole (put ++ more)
 ]
 
--- a list is a beginning of itself
+-- a list is a prefix of itself
 pub all_begun : (put whole : List ℕ) → put ≡ whole → Begins put whole
 all_begun put whole e = record { more = []; is = sym e ∙ sym (append-nil put) }
 
@@ -101,7 +100,7 @@ length_zeros : (nodes : ℕ) → length (replicate nodes (pos 0)) ≡ nodes
 length_zeros zero = refl
 length_zeros (suc n) = ap suc (length_zeros n)
 
--- balances that were 0 are, after moves, what the moves come to
+-- balances that were 0 are, after moves, the sums of the moves
 pub from_nothing : (nodes : ℕ) (moves : List Move) (new : List ℤ) → IsMoved moves (replicate nodes (pos 0)) new
     → AreBalances moves nodes new
 from_nothing nodes moves new m = record {
@@ -109,13 +108,13 @@ from_nothing nodes moves new m = record {
   each = λ i h. (let l = length_zeros nodes in let e = m.each i (omega arith) in let z = zero_at nodes i in omega (arith, ints));
 }
 
--- the counts of the source were low before the call, so that they can rise
+-- the counts of the source were low before the call, so they can rise
 pub record IsLow (t : Trace) : Type 0 where
   pub pulls : t.source_before.pulls < 2 ^ 63
   pub ends : t.source_before.ends < 2 ^ 63
   pub failures : t.source_before.failures < 2 ^ 63
 
--- before a turn: all that is whole was answered, and what is left is good
+-- before a turn: everything complete was answered, and what is left is good
 pub record IsRunning (by : Answering) (nodes turn : ℕ) (t : Trace) (v : ServingState) (ms : List (List ℕ)) : Type 0 where
   pub goes : Goes by (start by.first nodes t.got) v ms t.put
   pub good : IsOpen v.rest
@@ -192,13 +191,13 @@ small_first first nodes = record {
   balanced = record { each = λ i h. (let e = ap unsigned_abs (zero_at nodes i) in omega arith) };
 }
 
--- where the code sees its buffer empty, nothing is left
+-- if the code sees its buffer empty, nothing is left
 pub none_left : (seen held left x : List ℕ) (b : Bool) → b ≡ (length seen == 0) → b ≡ true → seen ≡ held → held ≡ left ++ x → left ≡ []
 none_left (y ∷ seen) held left x b e f g h = absurd (grind arith)
 none_left [] held [] x b e f g h = refl
 none_left [] held (y ∷ left) x b e f g h = cc
 
--- where the code sees bytes in its buffer after a pull that gave none, something is left
+-- if the code sees bytes in its buffer after a pull that gave none, something is left
 pub some_left : (seen held left x : List ℕ) (b : Bool) → b ≡ (length seen == 0) → b ≡ false → seen ≡ held → held ≡ left ++ x → length x ≡ 0
     → left ≡ [] → ⊥
 some_left [] held left x b e f g h l n = cc

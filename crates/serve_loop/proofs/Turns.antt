@@ -1,5 +1,5 @@
 -- A run between its devices, turn by turn. `IsBefore` holds before each turn, `IsAfter` once a pull
--- gave bytes (`feeds`), and where these are answered the next turn may begin (`goes_on`).
+-- gave bytes (`feeds`), and if these are answered the next turn may begin (`goes_on`).
 use Rattle.std.proofs.Common.{◌≡◌, ◌∙◌, ap, ℕ, ◌+◌, ◌<◌, List, [], ◌++◌, Ok, arith}
 use Rattle.std.specs.Io.KnownBytes.{Appends, Consumes}
 use Rattle.std.proofs.KnownBytes.{Appends-nil, Appends-trans, Consumes-nil, Consumes-trans}
@@ -17,7 +17,7 @@ abbrev pub so_far : Devices → Devices → List ℕ → List ℕ → Trace
 so_far old now got put = trace got put old.source.counts now.source.counts old.sink.counts now.sink.counts
 
 module _ (by : Answering) (nodes : ℕ) (old : Devices) where
-  -- before a turn, all that is whole was answered
+  -- before a turn, everything complete was answered
   pub record IsBefore (turn : ℕ) (now : Devices) (v : ServingState) : Type 0 where
     pub got : List ℕ
     pub put : List ℕ
@@ -72,7 +72,7 @@ module _ (by : Answering) (nodes : ℕ) (old : Devices) where
           → IsSmall nodes (record v { rest = rest })
       feeds_small f small = small_fed by nodes turn _ v rest f.messages f.fed small (let few = ready.few in omega arith)
 
-  -- what is whole of the bytes that came
+  -- the complete messages in the bytes that arrived
   module _ (turn turns : ℕ) (now : Devices) (v : ServingState) (f : IsAfter turn now v) where
     -- it was answered
     module _ (w : ServingState) (sink : SinkState) (p : Proceeds by v w now.sink sink) where

@@ -1,6 +1,5 @@
--- A round, message by message. `one_more` is the main lemma: where the first messages of a stream
--- are answered (`IsSoFar`), one more is. Before it, messages that come after others: their bytes,
--- replies, moves and sessions; after it, how far a round takes balances.
+-- A round, message by message. `one_more` is the main lemma: if the first messages of a stream are answered (`IsSoFar`), one more is.
+-- Before it, messages that come after others: their bytes, replies, moves and sessions; after it, how far a round moves balances.
 use Rattle.std.proofs.Common.{◌≡◌, ◌∙◌, sym, ap, subst, ℕ, ◌+◌, ◌*◌, ◌<◌, ◌≤◌, ◌^◌, ◌⊎◌, inl, inr, ℤ, List, [], ◌∷◌, ◌++◌, length, take, drop, map, refl, arith, append_assoc, append-nil, length-append}
 use Rattle.std.specs.List.{AllByRecursion}
 use Rattle.std.proofs.lemmas.Grind.{flat_map-append}
@@ -35,7 +34,7 @@ pub session_append : (s : Session) (xs ys : List Asked) → session_at s (xs ++ 
 session_append s [] ys = refl
 session_append s (x ∷ xs) ys = session_append (session_after s x.op) xs ys
 
--- where each of some messages is whole and each of others is, all are
+-- if each of some messages is complete and each of others is, all are
 pub both : (ms ns : List (List ℕ)) → AllByRecursion IsMessage ms → AllByRecursion IsMessage ns → AllByRecursion IsMessage (ms ++ ns)
 both [] ns e f = f
 both (m ∷ ms) ns e f = (e.0, both ms ns e.1 f)
@@ -69,7 +68,7 @@ first_within stream ms n f =
     let s = f.size in
     omega arith
 
--- a message that stands at the front of a stream is its first
+-- a message at the front of a stream is its first
 pub one_first : (stream : List ℕ) (n : ℕ) → BeginsMessage stream n → AreFirst stream (take n stream ∷ []) n
 one_first stream n b =
     let t : take n stream ≡ b.message = ap (take n) b.is ∙ take_at b.message b.after n b.sized in
@@ -132,7 +131,7 @@ module _ (by : Answering) (s : Session) where
         (subst (λ v. IsLight (by.moved s (asked m)) (length v)) (sym (append-nil m)) a.light);
   }
 
-  -- answered messages move balances away from 0 by at most 2^64 for each of their bytes
+  -- answered messages move balances by at most 2^64 for each of their bytes
   pub still_within : (limit used : ℕ) (ms : List (List ℕ)) (t : Session) (put : List ℕ) (a b : List ℤ)
       (stream : List ℕ) → AreWithin limit a → AreFirst stream ms used
       → AreAnswered by s ms t put (record { old = a; new = b }) → AreWithin (limit + 2 ^ 64 * used) b
@@ -157,7 +156,7 @@ module _ (by : Answering) (s : Session) (stream : List ℕ) where
   pub nothing_so_far : (b : List ℤ) → IsSoFar by s stream (record { used = 0; messages = 0; session = s }) [] (record { old = b; new = b })
   nothing_so_far b = record { messages = []; first = none_first stream; count = refl; answered = none_answered by s b }
 
-  -- where the next message is answered, one more of the first messages is
+  -- if the next message is answered, one more of the first messages is
   pub one_more : (round : RoundEnd) (put more : List ℕ) (a b c : List ℤ) (rest : List ℕ) (len : ℕ) (after : Session) →
       IsSoFar by s stream round put (record { old = a; new = b }) → rest ≡ drop round.used stream
       → BeginsMessage rest len → IsAnswered by round.session (take len rest) after more
@@ -187,7 +186,7 @@ module _ (by : Answering) (s : Session) (stream : List ℕ) where
     some = elim o [ inl h ↦ inl (let k = f.count in omega arith) | inr r ↦ inr r ];
   }
 
-  -- where replies were put, a message is answered
+  -- if replies were put, a message is answered
   some_put : (messages : List (List ℕ)) (t : Session) (put : List ℕ) → AreReplies (IsReply by) t (map asked messages) put → 0 < length put
       → 0 < length messages
   some_put [] t put none some = absurd (let e = ap length none in omega arith)
@@ -201,7 +200,7 @@ module _ (by : Answering) (s : Session) (stream : List ℕ) where
       let k = f.count in
       is_round round put b f (inl (omega arith))
 
-  -- and so are they where what is left begins with none
+  -- and so are they if what is left begins with none
   pub last_round : (round : RoundEnd) (put : List ℕ) (b : Balances) (rest : List ℕ) (framed : Framed) → IsSoFar by s stream round put b
       → rest ≡ drop round.used stream → Frames rest framed → (framed ≡ More) ⊎ ((n : ℕ) × (framed ≡ Bad n))
       → IsRound by s stream round put b

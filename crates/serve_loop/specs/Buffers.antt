@@ -1,4 +1,4 @@
--- A buffer that is fed by pulls.
+-- A buffer that pulls fill.
 use Rattle.std.specs.Prelude.{◌≡◌, ℕ, ◌+◌, ◌-◌, ◌≤◌, List, [], ◌++◌, length, take, drop, Result, Ok, Err}
 use Rattle.devices.specs.declared.failed.Failed.{Failed}
 use Rattle.devices.specs.declared.counts.Pulls.{Pulls}
@@ -25,19 +25,19 @@ pub record IsWithinBytes {A : Type 0} (b : Buffer A) : Type 0 where
 pub record HasRoom {A : Type 0} (b : Buffer A) : Type 0 where
   pub room : b.end + PULL_SIZE ≤ length b.bytes.items
 
--- a pull gave n bytes, got, or failed and gave none
+-- a pull returned n bytes, got, or failed and returned none
 abbrev pub IsGot : Result ℕ Failed → List ℕ → Type 0
 IsGot (Ok n) got = (length got ≡ n) × (n ≤ PULL_SIZE)
 IsGot (Err e) got = got ≡ []
 
--- what a pull gave follows what was held
+-- the bytes that a pull returned follow those held before
 pub record IsPull (before after : Pulls) (old new got : List ℕ)
     (result : Result ℕ Failed) : Type 0 where
   pub counts : after ≡ pulled before result
   pub is : IsGot result got
   pub behind : new ≡ old ++ got
 
--- a pull took bytes from a source, and they follow what was held
+-- a pull took bytes from a source, and they follow those held before
 abbrev pub Fills : SourceState → SourceState → List ℕ → List ℕ → Result ℕ Failed → Type 0
 Fills before after old new result =
     (got : List ℕ) × Consumes before.left after.left got

@@ -1,5 +1,5 @@
--- Worked examples: what was got before the last pull, what was put and has been flushed since, and
--- the numbers of the limits.
+-- Worked examples: what was pulled before the last pull, what was pushed and has been flushed
+-- since, and the numbers of the limits.
 use Rattle.std.specs.Prelude.{◌≡◌, [], ◌∷◌, Ok, Err}
 use Rattle.devices.specs.declared.failed.Failed.{Failed}
 use Rattle.devices.specs.declared.counts.Pulls.{Pulls}
@@ -8,12 +8,12 @@ use Rattle.devices.specs.Counting.{no_pulls, no_pushes, pulled, pushed, flushed}
 use Rattle.serve_loop.specs.declared.limits.TheConstants.{ENOUGH_REPLIES, MAX_ROUND_MESSAGES}
 use Rattle.serve_loop.specs.Serving.{Trace, trace, before, flushed_bytes}
 
--- five bytes were got and three put, by a source and a sink with these counts
+-- five bytes were pulled and three pushed, by a source and a sink with these counts
 abbrev pub some_trace : Pulls → Pushes → Trace
 some_trace source sink =
     trace (1 ∷ 2 ∷ 3 ∷ 4 ∷ 5 ∷ []) (7 ∷ 8 ∷ 9 ∷ []) no_pulls source no_pushes sink
 
--- a pull that gave bytes is left out; one that met the end or failed gave none
+-- the bytes of the last pull are left out; if it met the end or failed there are none
 pub record PullExamples : Type 0 where
   pub three_and_two : before (some_trace (pulled (pulled no_pulls (Ok 3)) (Ok 2)) no_pushes) ≡ 1 ∷
       2 ∷ 3 ∷ []
@@ -23,7 +23,7 @@ pub record PullExamples : Type 0 where
   pub failure : (e : Failed) → before
       (some_trace (pulled (pulled no_pulls (Ok 5)) (Err e)) no_pushes) ≡ 1 ∷ 2 ∷ 3 ∷ 4 ∷ 5 ∷ []
 
--- what was pushed since the last flush that succeeded is left out
+-- what was pushed after the last successful flush is left out
 pub record PushExamples : Type 0 where
   pub no_flush : flushed_bytes (some_trace no_pulls (pushed no_pushes 3 (Ok 3))) ≡ []
   pub two_pushes : flushed_bytes

@@ -6,15 +6,15 @@ use Rattle.serve_loop.specs.Rounds.{Answering, joined}
 use Rattle.serve_loop.specs.declared.done.Done.{Done}
 use Rattle.serve_loop.specs.Serving.{Trace, AreRepliesTo, BeginReplies, moves_of, flushed_bytes, AreBalances}
 
--- all replies to the complete messages that were got are put and flushed; this rest is left
+-- all replies to the complete messages that were pulled are pushed and flushed; this rest is left
 pub record HasAnsweredAll (by : Answering) (t : Trace) (messages : List (List ℕ))
     (rest : List ℕ) : Type 0 where
   pub split : IsSplit t.got messages rest
   pub put : AreRepliesTo by messages t.put
   pub flushed_all : flushed_bytes t ≡ t.put
 
--- the last pull met the end; the stream is messages alone, all are answered, and the balances are
--- what they gave and took
+-- the last pull met the end; the stream consists of messages, all are answered, and the balances
+-- are what they gave and took
 pub record HasServed {A : Type 0} (by : Answering) (nodes : ℕ) (t : Trace)
     (done : Done A) : Type 0 where
   pub ended : t.source.last ≡ Some End
@@ -24,7 +24,7 @@ pub record HasServed {A : Type 0} (by : Answering) (nodes : ℕ) (t : Trace)
   pub written : done.written ≡ length t.put
   pub balanced : AreBalances (moves_of by messages) nodes done.balances.items
 
--- the rest says a length that no message has, and begins at this place
+-- the rest states a length that no message can have, and begins at this place
 pub record HasBadLength (by : Answering) (t : Trace) (at len : ℕ) : Type 0 where
   pub messages : List (List ℕ)
   pub rest : List ℕ
@@ -41,7 +41,7 @@ pub record IsCutOff (by : Answering) (t : Trace) (at : ℕ) : Type 0 where
   pub place : at ≡ length (joined messages)
   pub cut : IsUnfinished rest
 
--- the last pull failed, and all that came before is answered
+-- the last pull failed, and everything before it is answered
 pub record HasFailed (by : Answering) (t : Trace) : Type 0 where
   pub failed : t.source.last ≡ Some Failure
   pub messages : List (List ℕ)
@@ -56,7 +56,7 @@ pub record HasUsedTurns (by : Answering) (turns : ℕ) (t : Trace) : Type 0 wher
   pub answered : HasAnsweredAll by t messages rest
   pub good : IsOpen rest
 
--- what was put is the beginning of the replies to what was got
+-- the bytes written are a prefix of the replies to those pulled
 pub record IsFront (by : Answering) (t : Trace) : Type 0 where
   pub messages : List (List ℕ)
   pub rest : List ℕ

@@ -16,20 +16,20 @@ use Rattle.serve_loop.specs.declared.opening.Until.TheVariants as wanted
 use Rattle.serve_loop.specs.declared.stream_fault.StreamFault.{StreamFault}
 use Rattle.serve_loop.specs.declared.stream_fault.StreamFault.TheVariants.{Read, Turns}
 
--- these bytes are no complete messages after which the session has begun
+-- these bytes are not complete messages after which the session has begun
 pub record HasNotBegun (by : Answering) (bytes : List ℕ) : Type 0 where
   pub fresh : (messages : List (List ℕ)) → IsSplit bytes messages [] → 0 < length messages
       → is_fresh (session_at by.first (map asked messages)) ≡ true
 
--- the result of these messages of a stream, which put these bytes
+-- the result of these messages of a stream, for which these bytes were pushed
 pub record IsDoneBy {A : Type 0} (by : Answering) (nodes : ℕ) (put : List ℕ)
     (messages : List (List ℕ)) (done : Done A) : Type 0 where
   pub counted : done.messages ≡ length messages
   pub written : done.written ≡ length put
   pub balanced : AreBalances (moves_of by messages) nodes done.balances.items
 
--- a stream is between two messages, and its session has begun since the last pull: all that was got
--- is answered, and neither device failed or met its end
+-- a stream is between two messages, and its session has begun since the last pull: everything
+-- pulled is answered, and neither device failed or met its end
 pub record HasBegun {A : Type 0} (by : Answering) (nodes turns : ℕ) (t : Trace)
     (begun : Begun A) : Type 0 where
   pub messages : List (List ℕ)
@@ -40,8 +40,8 @@ pub record HasBegun {A : Type 0} (by : Answering) (nodes turns : ℕ) (t : Trace
   pub done : IsDoneBy by nodes t.put messages begun.done
   pub counted : IsCounted {A = A} turns t (Err Turns)
 
--- the session had not begun when more was awaited last: at the end of the stream, at a failed read
--- or once the turns were used up; or else before the last pull, after which another fault came
+-- the session had not begun when more was last needed: at the end of the stream, at a failed read
+-- or after the last turn; or otherwise before the last pull, after which another fault occurred
 abbrev pub WasNotBegun : {A : Type 0} → Answering → Trace → Result (Done A) StreamFault → Type 0
 WasNotBegun by t (Ok done) = HasNotBegun by t.got
 WasNotBegun by t (Err Read) = HasNotBegun by t.got
@@ -68,7 +68,7 @@ IsRunToEnd by nodes turns t (Ok (openings.Begun begun)) = ⊥
 IsRunToEnd by nodes turns t (Ok (openings.Ended done)) = IsRun by nodes turns t (Ok done)
 IsRunToEnd {A} by nodes turns t (Err fault) = IsRun {A = A} by nodes turns t (Err fault)
 
--- a stream was served as far as it was to be
+-- a stream was served to its end, or until its session had begun, as given
 abbrev pub IsServedUntil : {A : Type 0} → Until → Answering → ℕ → ℕ → Trace
     → Result (Opening A) StreamFault → Type 0
 IsServedUntil wanted.End by nodes turns t result = IsRunToEnd by nodes turns t result

@@ -16,8 +16,8 @@ use Rattle.reply_model.specs.Streams.{moves_by}
 abbrev pub joined : List (List ℕ) → List ℕ
 joined messages = flat_map (λ m. m) messages
 
--- what answers requests: the session that a stream begins in, and in a session the reply to a
--- request, and its moves; and what the data of its reply are read from, if they are
+-- what answers requests: the session in which a stream begins; in a session the reply to a request,
+-- and its moves; and what the data of its reply are read from, if they are
 pub record Answering : Type 0 where
   pub first : Session
   pub reply : Session → Asked → List ℕ
@@ -28,7 +28,7 @@ pub record Answering : Type 0 where
 abbrev pub IsReply : Answering → Session → Asked → List ℕ → Type 0
 IsReply by s q bytes = IsTold (by.reading q) q.unique (by.reply s q) bytes
 
--- the balances as they were and are
+-- the old and the new balances
 pub record Balances : Type 0 where
   pub old : List ℤ
   pub new : List ℤ
@@ -70,16 +70,16 @@ pub record IsRound (by : Answering) (s : Session) (stream : List ℕ) (round : R
   pub answered : AreAnswered by s messages round.session put b
   pub some : (0 < length messages) ⊎ IsRest (drop round.used stream)
 
--- what answering adds to: the replies so far, and the balances
+-- what an answer is added to: the replies so far, and the balances
 pub record Output : Type 0 where
   pub replies : List ℕ
   pub balances : List ℤ
 
--- the same, of its parts
+-- the same, from its parts
 abbrev pub output : List ℕ → List ℤ → Output
 output replies balances = record { replies = replies; balances = balances }
 
--- the reply to a message was appended to the replies, and what it moves added to the balances
+-- the reply to a message is appended to the replies, and its moves are added to the balances
 abbrev pub AppendsAnswer : Answering → Session → List ℕ → Session → Output → Output → Type 0
 AppendsAnswer by s m after old new =
     (put : List ℕ) × (new.replies ≡ old.replies ++ put)

@@ -27,8 +27,8 @@ pub record AreReady (turns : ℕ) (old : Devices) : Type 0 where
   pub source_failures : old.source.counts.failures < 2 ^ 63
   pub sink_failures : old.sink.counts.failures < 2 ^ 63
 
--- what one call did: the bytes taken off the source, those put to the sink, and the counts of both
--- as they were and are
+-- what one call did: the bytes pulled from the source, those pushed to the sink, and the old and
+-- new counts of both
 pub record Trace : Type 0 where
   pub got : List ℕ
   pub put : List ℕ
@@ -37,7 +37,7 @@ pub record Trace : Type 0 where
   pub sink_before : Pushes
   pub sink : Pushes
 
--- the same, of its parts
+-- the same, from its parts
 abbrev pub trace : List ℕ → List ℕ → Pulls → Pulls → Pushes → Pushes → Trace
 trace got put source_before source sink_before sink = record {
   got = got;
@@ -48,7 +48,7 @@ trace got put source_before source sink_before sink = record {
   sink = sink;
 }
 
--- a call took bytes off the source and put bytes to the sink, and what it did is so
+-- a call pulled bytes from the source and pushed bytes to the sink, and this holds for what it did
 abbrev pub Does : (Trace → Type 0) → Devices → Devices → Type 0
 Does is old new =
     (got : List ℕ) × (put : List ℕ)
@@ -60,16 +60,16 @@ Does is old new =
 abbrev pub all_but : ℕ → List ℕ → List ℕ
 all_but n bytes = take (length bytes - n) bytes
 
--- how many bytes a pull gave
+-- how many bytes a pull returned
 abbrev pub last_size : Option LastPull → ℕ
 last_size (Some (Bytes n)) = n
 last_size _ = 0
 
--- what was got before the last pull
+-- the bytes that were pulled before the last pull
 abbrev pub before : Trace → List ℕ
 before t = all_but (last_size t.source.last) t.got
 
--- what was put, and has been flushed since
+-- the bytes that were pushed, and have been flushed since
 abbrev pub flushed_bytes : Trace → List ℕ
 flushed_bytes t = all_but t.sink.unflushed t.put
 
@@ -82,7 +82,7 @@ pub record Begins (part whole : List ℕ) : Type 0 where
 abbrev pub AreRepliesTo : Answering → List (List ℕ) → List ℕ → Type 0
 AreRepliesTo by messages bytes = AreReplies (IsReply by) by.first (map asked messages) bytes
 
--- these bytes are the beginning of replies to the first of the messages
+-- these bytes are a prefix of replies to the first of the messages
 pub record BeginReplies (by : Answering) (messages : List (List ℕ)) (bytes : List ℕ) : Type 0 where
   pub answered : List (List ℕ)
   pub later : List (List ℕ)
@@ -101,12 +101,12 @@ pub record HaveReplies (by : Answering) (messages : List (List ℕ)) (bytes : Li
 abbrev pub moves_of : Answering → List (List ℕ) → List Move
 moves_of by messages = moves_by by.moved by.first (map asked messages)
 
--- all replies were put, and flushed
+-- all replies were pushed, and flushed
 pub record IsAllTold (by : Answering) (t : Trace) (messages : List (List ℕ)) : Type 0 where
   pub put : AreRepliesTo by messages t.put
   pub flushed_all : flushed_bytes t ≡ t.put
 
--- each node has what the moves give it, less what they take; node n has the place n - 1
+-- each node has what the moves give it, minus what they take; node n is at index n - 1
 pub record AreBalances (moves : List Move) (nodes : ℕ) (balances : List ℤ) : Type 0 where
   pub same : length balances ≡ nodes
   pub each : (i : ℕ) → i < nodes → balance_at balances i ≡ balance (i + 1) moves
@@ -160,7 +160,8 @@ pub record IsCounted {A : Type 0} (turns : ℕ) (t : Trace)
   pub read : t.source.failures ≡ t.source_before.failures + read_failures result
   pub write : t.sink.failures ≡ t.sink_before.failures + write_failures result
 
--- all replies to what was got before the last pull were flushed, and no bad length stood in it
+-- all replies to what was pulled before the last pull were flushed, and there was no bad length in
+-- it
 pub record IsPrompt (by : Answering) (t : Trace) : Type 0 where
   pub messages : List (List ℕ)
   pub rest : List ℕ
@@ -168,8 +169,8 @@ pub record IsPrompt (by : Answering) (t : Trace) : Type 0 where
   pub good : IsOpen rest
   pub told : HaveReplies by messages (flushed_bytes t)
 
--- a stream was served: what was put is a beginning of the replies, at every end, and all of them if
--- nothing prevented it
+-- a stream was served: the bytes written are a prefix of the replies, at every end, and all of them
+-- if nothing prevented it
 pub record IsRun {A : Type 0} (by : Answering) (nodes turns : ℕ) (t : Trace)
     (result : Result (Done A) StreamFault) : Type 0 where
   pub messages : List (List ℕ)

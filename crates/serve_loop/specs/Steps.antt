@@ -17,8 +17,8 @@ use Rattle.serve_loop.specs.declared.progress.Progress.{Progress}
 use Rattle.serve_loop.specs.Buffers.{held_in, IsWithinBytes}
 use Rattle.serve_loop.specs.Serving.{Begins}
 
--- how far a stream is answered: the bytes not answered yet, the session, the place, the counts, the
--- balances
+-- how much of a stream is answered: the bytes not answered yet, the session, the place, the counts,
+-- the balances
 pub record ServingState : Type 0 where
   pub rest : List ℕ
   pub session : Session
@@ -27,7 +27,7 @@ pub record ServingState : Type 0 where
   pub written : ℕ
   pub balances : List ℤ
 
--- the same, of how far the code is
+-- the same, for the state of the code
 abbrev pub serving_state : {A : Type 0} → Progress A → ServingState
 serving_state p = record {
   rest = held_in p.buffer;
@@ -38,7 +38,7 @@ serving_state p = record {
   balances = p.balances.items;
 }
 
--- nothing is answered yet of a stream that begins in this session, and balances are kept of this
+-- no part of a stream that begins in this session is answered yet, and balances are kept for this
 -- many nodes
 abbrev pub beginning : Session → ℕ → ServingState
 beginning first nodes = record {
@@ -90,7 +90,7 @@ IsHalt Write = Unit {0}
 IsHalt Memory = Unit {0}
 IsHalt _ = ⊥
 
--- answering some messages stopped with a part of their replies put
+-- answering some messages stopped after a part of their replies was pushed
 pub record Halts (by : Answering) (from : ServingState) (before after : Pushes)
     (fault : StreamFault) (put : List ℕ) : Type 0 where
   pub messages : List (List ℕ)
@@ -104,7 +104,7 @@ pub record Halts (by : Answering) (from : ServingState) (before after : Pushes)
   pub failures : after.failures ≡ before.failures + sink_failures fault
   pub late : after.unflushed ≤ before.unflushed + length put
 
--- some messages were answered, and their replies handed on
+-- some messages were answered, and their replies were pushed
 pub record Proceeds (by : Answering) (from to : ServingState) (old new : SinkState) : Type 0 where
   pub messages : List (List ℕ)
   pub put : List ℕ
@@ -112,12 +112,12 @@ pub record Proceeds (by : Answering) (from to : ServingState) (old new : SinkSta
   pub held : Appends old.held new.held put
   pub flushed : HasFlushed put old.counts new.counts
 
--- one round was answered and its replies handed on, or no message was complete
+-- one round was answered and its replies were pushed, or no message was complete
 abbrev pub Advances : Answering → ServingState → ServingState → SinkState → SinkState → Bool
     → Type 0
 Advances by from to old new on = Proceeds by from to old new × GoesOn on from to
 
--- all complete messages were answered, and the replies handed on
+-- all complete messages were answered, and their replies were pushed
 abbrev pub AdvancesToRest : Answering → ServingState → ServingState → SinkState → SinkState → Type 0
 AdvancesToRest by from to old new = Proceeds by from to old new × IsRest to.rest
 

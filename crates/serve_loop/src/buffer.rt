@@ -1,9 +1,9 @@
-//! What was pulled and is not answered yet.
+//! Bytes that were pulled and are not answered yet.
 //!
 //! The bytes are from `start` up to `end` in a vector that keeps its length, so no pull clears
-//! memory. They are moved to the front only when room is made for a pull. The remaining bytes were
-//! all pulled last, or all belong to one incomplete message, so no byte is moved more than a few
-//! times, whatever the pulls' sizes.
+//! memory. They are moved to the front only to make room for a pull. The remaining bytes were all
+//! pulled last, or all belong to one incomplete message, so no byte is moved more than a few times,
+//! whatever the pulls' sizes.
 
 ghost use Rattle.std.specs.Prelude.{◌≡◌, ◌+◌, ◌-◌, ◌<◌, ◌≤◌, length, take, drop, [], OnOk, IfOk, MatchResult};
 ghost use Rattle.std.specs.Io.KnownBytes.{Consumes, IsAtEnd, Keeps};
@@ -44,7 +44,7 @@ impl<A: Allocator> Buffer<A> {
         &self.bytes[self.start..self.end]
     }
 
-    // Lets go of the first bytes.
+    // Removes the first bytes.
     pub(crate) fn pass(&mut self, used: usize)
         requires range { IsWithinBytes self.old }
         requires used { used ≤ length (held_in self.old) }
@@ -54,8 +54,8 @@ impl<A: Allocator> Buffer<A> {
         self.start += used;
     }
 
-    // Makes room for a pull after what it holds, which then is at the front. If memory is refused
-    // there is none, and it holds what it held.
+    // Makes room for a pull after the bytes that it holds, which are then at the front. If memory
+    // is refused there is no room, and the bytes are unchanged.
     pub(crate) fn make_room(&mut self) -> Result<(), AllocError>
         requires { IsWithinBytes self.old }
         ensures range { IsWithinBytes self.new }
@@ -71,7 +71,7 @@ impl<A: Allocator> Buffer<A> {
         grow(&mut self.bytes, self.end)
     }
 
-    // Pulls once into the room behind what it holds.
+    // Pulls once into the room after the bytes that it holds.
     pub(crate) fn pull<S: Source>(&mut self, source: &mut S) -> Result<usize, Failed>
         requires range { IsWithinBytes self.old }
         requires room { HasRoom self.old }
@@ -96,8 +96,8 @@ fn to_front<A: Allocator>(bytes: &mut Vec<u8, A>, start: usize, end: usize)
     bytes.copy_within(start..end, 0);
 }
 
-// Makes the vector long enough for a pull after the first `filled` bytes; and for one more, if
-// something was left of the pull before. A source that gives complete messages leaves nothing.
+// Makes the vector long enough for a pull after the first `filled` bytes, and for one more if the
+// pull before left something. A source of complete messages leaves nothing.
 fn grow<A: Allocator>(bytes: &mut Vec<u8, A>, filled: usize) -> Result<(), AllocError>
     requires { filled ≤ length bytes.old.items }
     ensures same { take filled bytes.new.items ≡ take filled bytes.old.items }

@@ -9,7 +9,7 @@ pub struct Done<A: Allocator> {
     pub messages: u64,
     /// How many bytes of replies were written.
     pub written: u128,
-    /// How many lookups the client still holds of each node that is counted; node n at the place
-    /// n - 1. It may be below 0.
+    /// How many lookups the client still holds of each node that is counted; that of node n is at
+    /// index n - 1. It may be below 0.
     pub balances: Vec<i128, A>,
 }

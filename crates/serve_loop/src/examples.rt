@@ -2,7 +2,7 @@
 
 ghost use Rattle.serve_loop.specs.Examples.{PullExamples, PushExamples, LimitExamples};
 
-/// What was got before the last pull, and what of the replies was flushed.
+/// What was pulled before the last pull, and which replies were flushed.
 #[tactic(auto, using(crate::proofs::Worked::pulls, crate::proofs::Worked::pushes))]
 pub fn traces_example()
     ensures pulls { PullExamples }

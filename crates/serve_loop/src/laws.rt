@@ -43,9 +43,9 @@ pub fn faults_are_the_devices<A: Allocator>()
         IsRun by n turns t r → ((r ≡ Err Write) ↔ (t.sink.failures ≡ t.sink_before.failures + 1)) }
 {}
 
-/// At every end what was written is the beginning of the replies, and all replies to what was got
-/// before the last pull were flushed, in which no bad length stood: those to its messages, into
-/// which it is cut in one way.
+/// At every end the bytes written are a prefix of the replies. All replies to what was pulled
+/// before the last pull were flushed; there was no bad length in it, and the replies are those to
+/// its messages, into which it is cut in one way.
 #[tactic(auto, using(crate::proofs::Ends::always))]
 pub fn replies_come_in_order<A: Allocator>()
     ensures front { (by : Answering) (n turns : ℕ) (t : Trace) (r : Result (Done A) StreamFault) →
@@ -57,15 +57,15 @@ pub fn replies_come_in_order<A: Allocator>()
         IsSplit (before t) messages rest → HaveReplies by messages (flushed_bytes t) }
 {}
 
-/// If a stream began in a fresh session and its session has begun, then what was got contains that
-/// beginning.
+/// If a stream began in a fresh session and its session has begun, then what was pulled contains
+/// that beginning.
 #[tactic(auto, using(crate::proofs::Openings::begun_or_not))]
 pub fn sessions_have_begun_or_not<A: Allocator>()
     ensures { (by : Answering) (n turns : ℕ) (t : Trace) (begun : Begun A) →
         is_fresh by.first ≡ true → HasBegun by n turns t begun → ¬ HasNotBegun by t.got }
 {}
 
-/// Moves come to one list of balances.
+/// Moves have exactly one list of balances.
 pub fn balances_are_one()
     ensures { (moves : List Move) (nodes : ℕ) (xs ys : List ℤ) →
         AreBalances moves nodes xs → AreBalances moves nodes ys → xs ≡ ys }

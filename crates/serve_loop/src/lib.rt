@@ -1,16 +1,18 @@
 //! The serving loop: a stream of FUSE requests from a source to a sink, whatever answers them.
 //!
 //! [`run_until`] answers the complete messages in its buffer, in rounds ([`AnswersRounds`], or
-//! [`AnswersOne`] message by message), each round's replies pushed and flushed before the next; if
-//! no complete message is left it makes one pull. A client that waits for a reply before it asks
-//! again is thus served. [`Until`] says whether a stream is served to its end or until its session
-//! has begun. The promise at each end is given once, by `IsRun` in `specs/Serving`; [`laws`] derive
+//! [`AnswersOne`] message by message), and pushes and flushes each round's replies before the next
+//! round. If no complete message is left it makes one pull. So a client that waits for a reply
+//! before its next request is served. [`Until`] says whether a stream is served to its end or until
+//! its session has begun. `IsRun` in `specs/Serving` gives the promise at each end; [`laws`] derive
 //! from it what each end means, and [`StreamFault`] names those at which the stream was not served
-//! to its end. The loop knows how messages are framed and that a session continues from request to
-//! request, but no image and no node. It takes memory for the balances, one number of 128 bits a
-//! node, for a buffer of one message and two pulls, and for a round's replies: each of the latter
-//! two grows up to about 1.25 MiB, whatever the stream; replies from workers have as much room as
-//! their pieces take.
+//! to its end.
+//!
+//! The loop knows how messages are framed and that a session continues from request to request, but
+//! no image and no node. It takes memory for the balances, one number of 128 bits a node, for a
+//! buffer of one message and two pulls, and for a round's replies. Each of the latter two grows up
+//! to about 1.25 MiB, whatever the stream; replies from workers have as much room as their pieces
+//! take.
 #![tactic(auto)]
 
 mod buffer;

@@ -1,4 +1,4 @@
-//! One message, whoever answers it.
+//! One message, whatever answers it.
 
 ghost use Rattle.std.specs.Prelude.{◌≡◌, ◌^◌, ◌++◌, ℕ, List, IfOk};
 ghost use Rattle.fuse_wire.specs.Stream.{IsMessage};
@@ -10,13 +10,14 @@ use fuse_wire::Replies;
 use reply_model::Session;
 use std::alloc::{AllocError, Allocator};
 
-/// What answers messages one at a time.
+/// Answers messages one at a time.
 pub trait AnswersOne {
     ghost answering: { Self → Answering };
 
-    /// Answers the message that has this number in its round, from 0 on, and says the session after
-    /// it. Appends the reply, and adds what the message moves to the balances, in which node n has
-    /// the place n - 1. What it moves of a node that has none is not counted.
+    /// Answers the message that has this number in its round, counted from 0, and returns the
+    /// session after it. Appends the reply, and adds the lookups that the message moves to the
+    /// balances; that of node n is at index n - 1. Lookups of a node without a balance are not
+    /// counted.
     ///
     /// If memory is refused, the replies and the balances may hold a part of the answer.
     fn answer<A: Allocator>(

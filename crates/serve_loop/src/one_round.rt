@@ -1,4 +1,4 @@
-//! One round, whoever works at it.
+//! One round, whatever answers it.
 
 ghost use Rattle.std.specs.Prelude.{◌≡◌, ◌≤◌, ◌^◌, ◌++◌, ℕ, List, length, IfOk};
 ghost use Rattle.reply_model.specs.declared.session.Session.{Session};
@@ -9,7 +9,7 @@ use fuse_wire::Replies;
 use reply_model::Session;
 use std::alloc::{AllocError, Allocator};
 
-/// How far a round went.
+/// How far a round got.
 #[derive(Clone, Copy)]
 pub struct RoundEnd {
     /// How many bytes its messages have.
@@ -20,7 +20,7 @@ pub struct RoundEnd {
     pub session: Session,
 }
 
-/// What answers rounds.
+/// Answers rounds.
 pub trait AnswersRounds {
     ghost answering: { Self → Answering };
 
@@ -30,16 +30,17 @@ pub trait AnswersRounds {
     fn first(&self) -> Session
         ensures { result ≡ (answering self.now).first };
 
-    /// What a round requires: if it calls workers, that they do what they must.
+    /// What a round requires: that its workers, if it calls any, do what they must.
     ghost ready: { Self → Type 0 };
 
-    /// Of how many nodes balances are kept: the first ones, which are numbered from 1 on.
+    /// How many nodes have balances: the first ones, which are numbered from 1.
     fn nodes(&self) -> u64
         ensures { result ≡ nodes self.now };
 
     /// Answers some of the first messages of the stream's bytes in the session, and at least one,
-    /// if one is complete. Appends their replies, and adds what they move to the balances, in which
-    /// node n has the place n - 1. Moves of a node that has none are not counted.
+    /// if one is complete. Appends their replies, and adds the lookups that they move to the
+    /// balances; that of node n is at index n - 1. Moves of a node without a balance are not
+    /// counted.
     ///
     /// If memory is refused, the replies and the balances may hold a part of the round.
     fn answer_round<A: Allocator>(

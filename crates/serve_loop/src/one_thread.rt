@@ -14,7 +14,7 @@ use std::alloc::{AllocError, Allocator};
 /// Answers the first complete messages of the stream's bytes one after another: all of them, but at
 /// most 256, and none after the reply that reaches 262,144 bytes of replies.
 ///
-/// Each message is borrowed from the stream and read once. `AllocError` only if memory was refused.
+/// Each message is borrowed from the stream and read once. `AllocError` only if memory is refused.
 pub fn walk<T: AnswersOne, A: Allocator>(
     answers: &T,
     stream: &[u8],

@@ -1,4 +1,4 @@
-//! How far a stream is answered.
+//! How much of a stream is answered.
 
 ghost use Rattle.std.specs.Prelude.{◌≡◌, IfOk};
 ghost use Rattle.serve_loop.specs.Buffers.{IsWithinBytes};
@@ -13,30 +13,30 @@ use reply_model::Session;
 use std::alloc::{AllocError, Allocator};
 
 /// Room for the replies of a round on one thread: fewer bytes than end it, and one more reply. If
-/// workers answer more it grows.
+/// workers answer more, it grows.
 const REPLIES_ROOM: usize = ENOUGH_REPLIES + MAX_REPLY_SIZE;
 
-/// How far a stream is answered.
+/// How much of a stream is answered.
 #[derive(Drop)]
 pub(crate) struct Progress<A: Allocator> {
-    // What was pulled and is not answered yet.
+    // The bytes that were pulled and are not answered yet.
     pub buffer: Buffer<A>,
     // The session after the messages so far.
     pub session: Session,
-    // How many bytes they have.
+    // The bytes of these messages.
     pub at: u64,
-    // How many they are.
+    // The number of these messages.
     pub messages: u64,
-    // How many bytes their replies have.
+    // The bytes of their replies.
     pub written: u128,
-    // What they gave to each node, less what they took.
+    // The lookups that they gave to each node, minus those that they took.
     pub balances: Vec<i128, A>,
     // Room for the replies of one round.
     pub replies: Replies<A>,
 }
 
 impl<A: Allocator + Copy> Progress<A> {
-    // Nothing is answered yet of a stream that begins in this session. Balances are kept of this
+    // No part of a stream that begins in this session is answered yet. Balances are kept for this
     // many nodes.
     pub(crate) fn new(alloc: A, first: Session, nodes: u64) -> Result<Progress<A>, AllocError>
         ensures { IfOk result (λ p. IsWithinBytes p.buffer

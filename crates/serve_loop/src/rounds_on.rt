@@ -1,4 +1,4 @@
-//! Rounds of answers, handed on to the sink.
+//! Rounds of answers, written to the sink.
 
 ghost use Rattle.std.specs.Prelude.{◌<◌, ◌^◌, OnOk, IfOk, IfErr};
 ghost use Rattle.serve_loop.specs.Steps.{serving_state, IsInOrder, Advances, AdvancesToRest, StopsShort};
@@ -25,7 +25,7 @@ pub(crate) fn answer_all<T: AnswersRounds, K: Sink, A: Allocator>(
         (K.state sink.old) (K.state sink.new)) }
 {
     loop {
-        // each end is an arm, by whose name the proof speaks of it
+        // each end is a match arm, whose name the proof uses
         match answer_round(answers, progress, sink) {
             Ok(true) => {}
             Ok(false) => return Ok(()),
@@ -34,7 +34,7 @@ pub(crate) fn answer_all<T: AnswersRounds, K: Sink, A: Allocator>(
     }
 }
 
-// Answers one round, and hands its replies on. False if no message is complete.
+// Answers one round, and writes its replies to the sink. False if no message is complete.
 fn answer_round<T: AnswersRounds, K: Sink, A: Allocator>(
     answers: &T,
     progress: &mut Progress<A>,

@@ -20,14 +20,14 @@ use std::alloc::Allocator;
 /// Serves the source's stream of requests into the sink, in at most `turns` pulls of at most 65,536
 /// bytes each. The stream begins in the session that `answers` names. It is served to its end, or
 /// only until its session has begun and no part of a message is left: after the pull that brought
-/// INIT, where each pull brings one message.
+/// INIT, if each pull brings one message.
 ///
 /// - `Ended`: the stream came to its end between two messages, and all replies are written and
-///   flushed. No session had begun where that was to end it.
-/// - `Begun`: the session has begun, and had not before the last pull. All that was got is
+///   flushed. If the beginning of a session was to end it, no session had begun.
+/// - `Begun`: the session has begun, and had not before the last pull. Everything pulled is
 ///   answered, the replies are flushed, and neither device failed or met its end.
-/// - `BadLength`, `CutOff`, `Read` and `Turns`: all replies to the complete messages that came are
-///   written and flushed.
+/// - `BadLength`, `CutOff`, `Read` and `Turns`: all replies to the complete messages that arrived
+///   are written and flushed.
 /// - `Write` and `Memory`: some of the first replies are written.
 ///
 /// `Read` and `Write` exactly if the source's or the sink's count of failures rose in this call. No
@@ -66,7 +66,7 @@ pub fn run_until<T: AnswersRounds, S: Source, K: Sink, A: Allocator + Copy>(
             }
             return Err(StreamFault::CutOff { at: progress.at });
         }
-        // as `?`, but each end is an arm, by whose name the proof speaks of it
+        // like `?`, but each end is a match arm, whose name the proof uses
         match answer_all(answers, &mut progress, sink) {
             Ok(()) => {}
             Err(fault) => return Err(fault),
@@ -84,7 +84,7 @@ pub fn run_until<T: AnswersRounds, S: Source, K: Sink, A: Allocator + Copy>(
     Err(StreamFault::Turns)
 }
 
-// The length in the next message, if no message has it, in bytes with no complete message.
+// In bytes without a complete message, the length of the next message, if no message can have it.
 fn bad_length(rest: &[u8]) -> Option<u32>
     requires { IsRest rest.now }
     ensures { MatchOption result (IsOpen rest.now) (λ n. IsBad rest.now n) }

@@ -8,13 +8,14 @@ use std::alloc::{AllocError, AllocFailed};
 /// Why a stream was not served to its end.
 #[derive(Clone, Copy, Debug, PartialEq, Eq)]
 pub enum StreamFault {
-    /// The message that begins at this place of the stream says a length that no message has.
+    /// The message that begins at this place of the stream states a length that no message can
+    /// have.
     BadLength { at: u64, len: u32 },
     /// The stream ends inside the message that begins at this place.
     CutOff { at: u64 },
     /// A pull of the source failed.
     Read,
-    /// A push to the sink or a flush failed, or a push took none of some bytes.
+    /// A push to the sink or a flush failed, or a push of some bytes took none.
     Write,
     /// As many pulls as were allowed were made, and none met the end.
     Turns,

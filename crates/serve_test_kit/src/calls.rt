@@ -12,7 +12,7 @@ pub struct Calls<'a> {
 }
 
 impl<'a> Calls<'a> {
-    /// None yet. The memory of `watched` is looked at.
+    /// No calls yet. The memory of `watched` is watched.
     pub fn new(watched: Option<&'a Refusing<Global>>) -> Self {
         Calls {
             made: 0,

@@ -1,6 +1,6 @@
 //! What the tests of serving share.
 //!
-//! - `reader` and `writer`: two devices that give and take as instructed, and their `calls`.
+//! - `reader` and `writer`: two devices that return and take what a test sets, and their `calls`.
 //! - `runs`: runs of streams over tables and images, and their results.
 #![tactic(auto)]
 

@@ -1,9 +1,9 @@
-//! A reader that gives pieces.
+//! A reader that returns its bytes in pieces.
 
 use crate::calls::Calls;
 use std::io::{self, Error, ErrorKind, Read};
 
-/// A reader that gives its bytes in pieces of at most this many, and then ends or fails.
+/// A reader that returns its bytes in pieces of at most this many, and then ends or fails.
 #[derive(Drop)]
 pub struct Pieces<'a> {
     pub rest: &'a [u8],

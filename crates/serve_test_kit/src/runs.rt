@@ -27,7 +27,7 @@ pub enum Stream {
     Script,
     /// The script, and then a WRITE for which the room for requests has to grow.
     Long,
-    /// The two first messages of the script, and then a length that no message has.
+    /// The first two messages of the script, and then a length that no message can have.
     Bad,
     /// A million bytes without a reply.
     Forgets,
@@ -35,12 +35,12 @@ pub enum Stream {
     Many,
 }
 
-/// How a stream comes, and how its replies are taken.
+/// How a stream arrives, and how its replies are taken.
 #[derive(Clone, Copy)]
 pub struct Run {
     pub stream: Stream,
-    /// How many first bytes of it are given, in pieces of this many, and whether the read after
-    /// them fails.
+    /// How many of its first bytes arrive, in pieces of this many, and whether the read after them
+    /// fails.
     pub given: usize,
     pub piece: usize,
     pub breaks: bool,
@@ -75,7 +75,7 @@ pub fn by(plan: (u32, u32)) -> Run {
     Run { plan, ..WHOLE }
 }
 
-/// The memory of a run that is refused, if one looks whether a device is called after that.
+/// The memory of a run that is refused, if a test checks that no device is called after that.
 pub type Watched<'a> = Option<&'a Refusing<Global>>;
 
 /// How many messages and how many bytes of replies, or why it stopped.
@@ -120,7 +120,7 @@ impl<A: Allocator> Finished<A> {
         }
     }
 
-    /// What it gave, if these are the replies.
+    /// Its result, if these are the replies.
     fn seen(&self, replies: &[u8]) -> Seen {
         Seen {
             end: self.end(),
@@ -132,11 +132,11 @@ impl<A: Allocator> Finished<A> {
     }
 }
 
-/// What a run gave.
+/// The result of a run.
 #[derive(Clone, Copy, PartialEq, Eq)]
 pub struct Seen {
     pub end: End,
-    /// How many bytes were put, if they begin the replies.
+    /// How many bytes were written, if they are a prefix of the replies.
     pub put: Option<usize>,
     pub reads: u64,
     /// Writes and flushes.
@@ -145,8 +145,8 @@ pub struct Seen {
     pub late: u64,
 }
 
-/// How a run ends; how many bytes of the first replies are put, and how many reads, and writes and
-/// flushes, are made.
+/// How a run ends; how many bytes of the first replies are written, and how many reads, and writes
+/// and flushes, are made.
 pub type Outcome = (End, usize, u64, u64);
 
 impl Seen {
@@ -243,13 +243,16 @@ pub fn ran_from<R: Threads + Sync, D: Contents + Sync>(
     };
     let mut tap = Tap::new(&mut pieces);
     let mut spout = Spout::new(&mut taker);
-    let done = run_from(rt, global, served, &mut tap, &mut spout, &terms);
+    let done = match run_from(rt, global, served, &mut tap, &mut spout, &terms) {
+        Ok(done) => Ok(done),
+        Err(fault) => Err(Stop::from(fault)),
+    };
     drop(tap);
     drop(spout);
     Some(Finished::of(done, pieces, taker))
 }
 
-/// What a run of a stream, the first of these two, gives over a table.
+/// The result of a run of a stream, the first of these two, over a table.
 pub fn run_over<R: Threads + Sync, A: Allocator + Copy + Send + Sync>(
     rt: &R,
     global: Global,
@@ -266,7 +269,7 @@ pub fn run_over<R: Threads + Sync, A: Allocator + Copy + Send + Sync>(
     Some(ran.seen(replies))
 }
 
-/// What a run gives over the table of the sample image, which is in memory of `plain`.
+/// The result of a run over the table of the sample image, which is in memory of `plain`.
 pub fn run_of<R: Threads + Sync, A: Allocator + Copy + Send + Sync>(
     rt: &R,
     global: Global,
@@ -281,7 +284,7 @@ pub fn run_of<R: Threads + Sync, A: Allocator + Copy + Send + Sync>(
     run_over(rt, global, alloc, &table, (&stream, &replies), row, watched)
 }
 
-/// What a run over images by `serve_as` gives for a stream that is served lastingly or not.
+/// The result of a run over images by `serve_as`, for a lasting stream or another.
 pub fn serve_of<R: Threads + Sync, A: Allocator + Copy + Send + Sync>(
     rt: &R,
     global: Global,

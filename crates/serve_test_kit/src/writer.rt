@@ -1,4 +1,4 @@
-//! A writer that takes so much.
+//! A writer that takes a limited number of bytes.
 
 use crate::calls::Calls;
 use std::io::{self, Error, ErrorKind, Write};

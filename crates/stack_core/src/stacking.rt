@@ -14,8 +14,8 @@ use romfs_reader::{Image, ImageView, views_of};
 use std::alloc::{AllocError, Allocator};
 use std::thread::{Threads, join};
 
-/// The tree of a list of layers, the lowest first, as [`stack_views`] makes it of the images that
-/// are lent.
+/// The tree of a list of layers, the lowest first, as [`stack_views`] makes it from borrowed
+/// images.
 pub fn stack<R: Threads + Sync, A: Allocator + Copy + Send + Sync, G: Gate + Sync>(
     rt: &R,
     alloc: A,
@@ -32,9 +32,9 @@ pub fn stack<R: Threads + Sync, A: Allocator + Copy + Send + Sync, G: Gate + Syn
 /// The tree of a list of layers, the lowest first.
 ///
 /// The list is cut in two, and so on, and as many parts are stacked at the same time as there are
-/// processors, 16 at most ([`forks_of`]). The gate is passed with `Work::Tree` and the layer's
-/// number before its tree is made. Images are only read. A path in all of n layers is visited log n
-/// times. `AllocError` only if memory was refused, in any thread.
+/// processors, at most 16 ([`forks_of`]). The gate is passed with `Work::Tree` and the layer's
+/// number before its tree is made. Images are only read. A path that all of n layers have is
+/// visited log n times. `AllocError` only if memory is refused, in any thread.
 pub fn stack_views<R: Threads + Sync, A: Allocator + Copy + Send + Sync, G: Gate + Sync>(
     rt: &R,
     alloc: A,
@@ -98,7 +98,7 @@ fn stack_from<R: Threads + Sync, A: Allocator + Copy + Send + Sync, G: Gate + Sy
     lay(alloc, low?, high?)
 }
 
-// The same, of its halves one after the other.
+// The same, with one half after the other.
 fn stack_in_turn<A: Allocator + Copy, G: Gate>(
     alloc: A,
     first: u16,

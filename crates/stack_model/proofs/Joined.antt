@@ -1,6 +1,6 @@
--- A run of layers laid on another one: by recursion on the lower run, the joined run shows what the
--- upper one shows, and what the lower one shows where the upper leaves it free (`shows_joined`); it
--- cuts what either cuts (`cuts_joined`). Then what one layer shows and cuts by itself.
+-- A run of layers laid on another one: by recursion on the lower run, the joined run shows what the upper one shows, and what the lower one
+-- shows if the upper leaves it free (`shows_joined`); it cuts what either cuts (`cuts_joined`). Then what one layer shows and cuts by
+-- itself.
 use Rattle.std.proofs.Common.{◌≡◌, sym, subst, ℕ, zero, suc, ◌+◌, ◌⊎◌, ◌↔◌, inl, inr, List, [], ◌∷◌, ◌++◌, length, refl, arith}
 use Rattle.std.specs.Prelude.{codes}
 use Rattle.std.specs.List.{AllByRecursion}
@@ -13,7 +13,7 @@ free_joined (a ∷ low) high path =
     let r = free_joined low high path in
     (λ f. let s = r.0 f.1 in ((f.0, s.0), s.1), λ f. (f.0.0, r.1 (f.0.1, f.1)))
 
--- the joined run shows a path as its low part does, where the high part leaves it free
+-- the joined run shows a path as its low part does, if the high part leaves it free
 pub top_low : (low high : List (List ℕ)) (path : Path) (i h : ℕ) → IsTop low path i h → IsFree high path → IsTop (low ++ high) path i h
 top_low (a ∷ low) high path zero h t f = (t.0, (free_joined low high path).1 (t.1, f))
 top_low (a ∷ low) high path (suc i) h t f = top_low low high path i h t f
@@ -40,7 +40,7 @@ top_only (a ∷ low) high path (suc i) h t = elim (top_only low high path i h t)
   )
 ]
 
--- the joined run shows what the high run shows, or what the low run does where the high leaves it
+-- the joined run shows what the high run shows, or what the low run does if the high leaves it
 -- free
 pub shows_joined : (low high : List (List ℕ)) (path : Path) (i h : ℕ) →
     Shows (low ++ high) path i h
@@ -67,7 +67,7 @@ alone a path i h = (λ s. (s.0, (bottom i s.1).0, (bottom i s.1).1), λ s. (s.0,
     bottom zero t = (refl, t.0)
     bottom (suc i) t = absurd t
 
--- a run leaves a path free where no layer of it has the path, and it does not cut it
+-- a run leaves a path free if no layer of it has the path, and it does not cut it
 pub free_is : (layers : List (List ℕ)) (path : Path) → IsFree layers path ↔ (AllByRecursion (λ a. ¬ IsIn a path) layers
     × ¬ IsCut layers path)
 free_is [] path = (λ f. (tt, λ c. c), λ f. tt)
@@ -77,17 +77,17 @@ free_is (a ∷ above) path =
       λ f. ((f.0.0, λ c. f.1 (inl c)), r.1 (f.0.1, λ c. f.1 (inr c))),
     )
 
--- a marker for a name cuts that name in its directory, with all below it
+-- a marker for a name cuts that name in its directory, with everything below it
 pub cut_by_marker : (a : List ℕ) (q rest : Path) (y : List ℕ) → IsPlain (q ++ y ∷ rest) → HasDirectory a q
     → IsIn a (q ++ (codes ".wh." ++ y) ∷ []) → Cuts a (q ++ y ∷ rest)
 cut_by_marker a q rest y p d m = (p, (q, y, rest, refl, (d, inl m)))
 
--- an opaque marker cuts all that is in its directory
+-- an opaque marker cuts everything in its directory
 pub cut_by_opaque : (a : List ℕ) (q rest : Path) (y : List ℕ) → IsPlain (q ++ y ∷ rest) → HasDirectory a q
     → IsIn a (q ++ codes ".wh..wh..opq" ∷ []) → Cuts a (q ++ y ∷ rest)
 cut_by_opaque a q rest y p d m = (p, (q, y, rest, refl, (d, inr (inl m))))
 
--- an entry that is no directory cuts its own path, with all below it
+-- an entry that is not a directory cuts its own path, with everything below it
 pub cut_by_other : (a : List ℕ) (q rest : Path) (y : List ℕ) → IsPlain (q ++ y ∷ rest) → HasDirectory a q → HasOther a (q ++ y ∷ [])
     → Cuts a (q ++ y ∷ rest)
 cut_by_other a q rest y p d m = (p, (q, y, rest, refl, (d, inr (inr m))))

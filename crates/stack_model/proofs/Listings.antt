@@ -1,6 +1,5 @@
--- A stack has one listing (`one_listing`), since lists that rise and have the same entries are one
--- (`same_entries`); and each listed place is one that a path of its layer leads to, after hard
--- links (`led_to`).
+-- A stack has one listing (`one_listing`), since lists that rise and have the same entries are equal (`same_entries`); and a path of its
+-- layer leads to each listed place, after hard links (`led_to`).
 use Rattle.std.proofs.Common.{◌≡◌, ◌∙◌, sym, ap, subst, ℕ, zero, suc, inl, inr, List, [], ◌∷◌, Some, refl}
 use Rattle.std.specs.Prelude.{slice_get}
 use Rattle.std.specs.declared.cmp.Ordering.TheVariants.{Less, Greater}

@@ -35,7 +35,7 @@ told stack p said owner = record (attr_of (stacked stack.layers stack.entries) p
   gid = (owner_by said owner).gid;
 }
 
--- without a row, and where the superuser has all that has none, they are those without rows
+-- without a row, and if everything without one belongs to the superuser, they are those without rows
 pub as_without : (stack : Stacked) (p : Place) → row_of stack p ≡ None → stack.owner ≡ ROOT
     → attr_of stack p ≡ attr_of (stacked stack.layers stack.entries) p
 as_without stack p none owner = ap (λ r. told stack p r stack.owner) none ∙ ap (told stack p None) owner

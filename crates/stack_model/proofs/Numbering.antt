@@ -1,6 +1,6 @@
--- Numbers and places are one to one. Each place is noted once (`once_nodes`), so it has the number
--- of its position, and no other (`number_used`); what is noted are the places of entries, and of
--- all of them (`number_listed`, `entries_numbered`); the first is the root's (`root_first`).
+-- Numbers and places are in one-to-one correspondence. Each place is noted once (`once_nodes`), so it has the number of its position, and
+-- no other (`number_used`); the places noted are those of entries, and of all of them (`number_listed`, `entries_numbered`); the first is
+-- the root's (`root_first`).
 use Rattle.std.proofs.Common.{◌≡◌, ◌∙◌, sym, ap, ℕ, zero, suc, ◌+◌, ◌<◌, ◌≤◌, ◌⊎◌, ◌↔◌, inl, inr, List, [], ◌∷◌, ◌++◌, length, map, Bool, true, false, ◌||◌, Some, IsSome, cond, refl, arith}
 use Rattle.std.specs.Prelude.{slice_get, fold, nat_eq}
 use Rattle.std.specs.List.{list_any, position_from, AllByRecursion}
@@ -17,7 +17,7 @@ same_is : (p q : Place) → same_place p q ≡ true → p ≡ q
 same_is p q e = let b = and_parts (nat_eq p.0 q.0) (nat_eq p.1 q.1) e in let f = eqb-true p.0 q.0 b.0 in
     let g = eqb-true p.1 q.1 b.1 in ap (λ x. (x, p.1)) f ∙ ap (λ y. (q.0, y)) g
 
--- no place comes twice
+-- no place occurs twice
 abbrev Once : List Place → Type 0
 Once [] = Unit {0}
 Once (p ∷ ps) = (list_any (same_place p) ps ≡ false) × Once ps
@@ -53,7 +53,7 @@ at_found n zero p (q ∷ ps) o e = let i : q ≡ p = cc in rw (i, same_itself p)
 at_found n (suc k) p (q ∷ ps) o e = rw (other_place p q ps k o.0 e (same_place p q) refl) (at_found (n + 1) k p ps o.1 e
     ∙ ap Some (omega arith))
 
--- adding a place that is not there keeps each once
+-- adding a place that is missing keeps each once
 once_more : (ps : List Place) (p : Place) → Once ps → list_any (same_place p) ps ≡ false → Once (ps ++ p ∷ [])
 once_more [] p o f = (refl, tt)
 once_more (q ∷ ps) p o f = (
@@ -88,7 +88,7 @@ once_all : (ps qs : List Place) → Once ps → Once (fold noted ps qs)
 once_all ps [] o = o
 once_all ps (q ∷ qs) o = once_all (noted ps q) qs (once_noted ps q o)
 
--- what is noted stays, and the last one is there
+-- noted places stay, and the last one is among them
 stays_any : (ps : List Place) (p q : Place) → list_any (same_place p) ps ≡ true → list_any (same_place p) (noted ps q) ≡ true
 stays_any ps p q e = go (list_any (same_place q) ps)
   where
@@ -113,7 +113,7 @@ all_noted e [] ps a = elim a [ ]
 all_noted e (f ∷ fs) ps (inl i) = rw i (stays_all (noted ps (place f)) (map place fs) (place f) (is_noted ps (place f)))
 all_noted e (f ∷ fs) ps (inr a) = all_noted e fs (noted ps (place f)) a
 
--- a place that is noted was there, or is the new one
+-- a place that is noted was noted before, or is the new one
 noted_from : (ps : List Place) (p q : Place) → list_any (same_place p) (noted ps q) ≡ true → (list_any (same_place p) ps ≡ true) ⊎ (q ≡ p)
 noted_from ps p q = go (list_any (same_place q) ps)
   where
@@ -124,7 +124,7 @@ noted_from ps p q = go (list_any (same_place q) ps)
     go true e = inl e
     go false e = elim (or_cases _ _ (sym (list_any-append (same_place p) ps (q ∷ [])) ∙ e)) [ inl f ↦ inl f | inr f ↦ inr (last f) ]
 
--- a place among all that are noted was there, or is an entry's
+-- a place among all that are noted was noted before, or is an entry's
 from_entry : (es : List Entry) (ps : List Place) (p : Place)
     → list_any (same_place p) (fold noted ps (map place es)) ≡ true
     → (list_any (same_place p) ps ≡ true) ⊎ ((e : Entry) × IsAmong e es × (place e ≡ p))
@@ -159,7 +159,7 @@ once_nodes : (entries : List Entry) → Once (nodes entries)
 unfolding nodes
 once_nodes entries = once_all [] (map place entries) tt
 
--- a place has a number exactly where the node of that number is the place
+-- a place has a number exactly if the node of that number is the place
 pub number_used : (entries : List Entry) (n : ℕ) (p : Place) → (number_of entries p ≡ Some n) ↔ (node_of entries n ≡ Some p)
 unfolding number_of
 number_used entries n p = (there, back n)
@@ -200,7 +200,7 @@ numbered : (entries : List Entry) (e : Entry) → IsAmong e entries → (m : ℕ
 unfolding number_of nodes
 numbered entries e a = some_position 1 (place e) (nodes entries) (all_noted e entries [] a)
 
--- each entry's place has a number, and two have one number exactly where they are one place
+-- each entry's place has a number, and two have one number exactly if they are one place
 pub entries_numbered : (entries : List Entry) (e f : Entry) → IsAmong e entries → IsAmong f entries
     → IsSome (number_of entries (place e))
     × ((number_of entries (place e) ≡ number_of entries (place f)) ↔ (place e ≡ place f))
@@ -234,5 +234,5 @@ root_first layers (f ∷ fs) e l a p = let i : e ≡ f =
     begins : (f : Entry) (fs : List Entry) → number_of (f ∷ fs) (place f) ≡ Some 1
     begins f fs = let r = first_stays (place f) [] (map place fs) in rw (r.1, same_itself (place f)) refl
 
--- how numbers and places go together
+-- the relation of numbers and places
 pub ruleset numbering = (root_first, number_used, number_listed, numbers_all, entries_numbered)

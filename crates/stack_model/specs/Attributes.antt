@@ -1,5 +1,5 @@
--- Attributes of a place, as Linux's stat has them, its extended attributes (xattr(7)), and its
--- data: what its header says, and what a row of its layer's trailer does.
+-- Attributes of a place, as in Linux's stat, its extended attributes (xattr(7)), and its data: what
+-- its header says, and what a row of its layer's trailer says.
 use Rattle.std.specs.Prelude.{ℕ, ◌+◌, ◌-◌, ◌*◌, ◌/◌, ◌%◌, ◌^◌, List, [], min, Bool, Option, None, Some, take, drop, sum_by, count_by, slice_index_or, bit_and, bit_or, if◌then◌else◌, true, false, not, nat_eq}
 use Rattle.std.specs.List.{list_any}
 use Rattle.std.specs.Option.{option_map_or}
@@ -15,7 +15,7 @@ use Rattle.stack_model.specs.Listing.{Stacked}
 use Rattle.stack_model.specs.Numbers.{Place, place, same_place, number, nodes, children}
 use Rattle.std.specs.Prelude.{length}
 
--- whether the kind is a directory's
+-- whether the kind is that of a directory
 abbrev pub is_directory : Kind → Bool
 is_directory Directory = true
 is_directory _ = false
@@ -57,7 +57,7 @@ abbrev pub mode_by : Option AttributeRow → ℕ → ℕ
 mode_by None mode = mode
 mode_by (Some row) mode = mode / 2 ^ 12 * 2 ^ 12 + row.mode % 2 ^ 12
 
--- whom the row says, or else this owner
+-- the owner in the row, or otherwise this owner
 abbrev pub owner_by : Option AttributeRow → Owner → Owner
 owner_by None owner = owner
 owner_by (Some row) owner = record { uid = row.uid; gid = row.gid }
@@ -87,7 +87,7 @@ module _ (layers : List (List ℕ)) where
   abbrev pub is_directory_at : Place → Bool
   is_directory_at p = is_directory (kind_at p)
 
-  -- the mode that the header at a place says, by its kind and whether it is executable
+  -- the mode in the header at a place, by its kind and whether it is executable
   abbrev pub mode : Place → ℕ
   mode p = mode_of (kind_at p) (exec (layer_of p) p.1)
 
@@ -95,7 +95,7 @@ module _ (layers : List (List ℕ)) where
   abbrev pub size_at : Place → ℕ
   size_at p = size_of (kind_at p) (size (layer_of p) p.1)
 
-  -- the device number of a place; 0 if it is no device
+  -- the device number of a place; 0 if it is not a device
   abbrev pub rdev : Place → ℕ
   rdev p = rdev_of (kind_at p) (spec (layer_of p) p.1)
 
@@ -115,7 +115,7 @@ module _ (stack : Stacked) where
       2 + count_by (λ c. is_directory_at stack.layers c.place) (children stack.entries p)
       else count_by (λ e. same_place p (place e)) stack.entries
 
-  -- the same, held at the field's greatest value
+  -- the same, at most the maximum of the field
   abbrev pub nlink : Place → ℕ
   nlink p = min (links p) (2 ^ 32 - 1)
 

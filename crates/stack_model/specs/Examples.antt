@@ -1,5 +1,5 @@
 -- Worked examples: modes of each kind, the numbers of devices, sizes, the paths of two layers,
--- nested directories, and what rows say.
+-- nested directories, and rows of attributes.
 use Rattle.std.specs.Prelude.{◌≡◌, ℕ, false, true, List, [], ◌∷◌, ◌++◌, map, Some, None, codes}
 use Rattle.std.specs.declared.cmp.Ordering.TheVariants.{Less}
 use Rattle.stack_model.specs.Listing.{Entry, Stacked, stacked, path_cmp}
@@ -11,7 +11,7 @@ use Rattle.stack_model.specs.declared.owner.TheConstants.Owner.{ROOT}
 use Rattle.stack_model.specs.Attributes.{mode_of, mode_by, size_of, device, rdev_of, blocks_of, blocks_all, links, data_of, mode_at, attr_of, xattrs_of, has_xattrs, has_acls}
 use Rattle.stack_model.specs.declared.limits.TheConstants.{MAX_LAYERS}
 
--- without and with the bit that says executable
+-- without and with the executable bit
 pub record ModeExamples : Type 0 where
   pub directory : mode_of Directory false ≡ 0x41a4
   pub directory_exec : mode_of Directory true ≡ 0x41ed
@@ -41,8 +41,7 @@ pub record DeviceExamples : Type 0 where
   pub link : rdev_of SymLink 0x00010003 ≡ 0
   pub directory : rdev_of Directory 0x00010003 ≡ 0
 
--- sizes are those of files and targets alone; blocks are rounded up, those of each layer by
--- themselves
+-- only files and targets have sizes; blocks are rounded up, those of each layer separately
 pub record SizeExamples : Type 0 where
   pub regular : size_of Regular 5 ≡ 5
   pub link : size_of SymLink 5 ≡ 5
@@ -67,7 +66,7 @@ two_layers =
     ∷ record { path = codes "z" ∷ []; layer = 0; header = 0x60 }
     ∷ []
 
--- in a list of no layers no place is a directory, so there the names of one are those of a file
+-- in a list of no layers no place is a directory, so the names of one are then those of a file
 pub record LayerExamples : Type 0 where
   pub first_path : path_of two_layers (0, 0x60) ≡ codes "d" ∷ codes "x" ∷ []
   pub numbers : map (λ e. number two_layers (place e)) two_layers ≡ 1 ∷ 2 ∷ 3 ∷ 4 ∷ 3 ∷ []
@@ -107,8 +106,7 @@ nested =
 abbrev pub nested_stack : Stacked
 nested_stack = stacked (six_headers ∷ []) nested
 
--- what lies in one directory lies in no other one, and not in those above it; directories have no
--- data
+-- what is in one directory is in no other one, and not in those above it; directories have no data
 pub record NestedExamples : Type 0 where
   pub of_root : map (λ c. c.place) (children nested (0, 0)) ≡ (0, 4) ∷ (0, 12) ∷ []
   pub of_c : map (λ c. c.place) (children nested (0, 12)) ≡ (0, 16) ∷ []
@@ -136,7 +134,7 @@ row_for place mode = record {
   nanoseconds = 999999999;
 }
 
--- the same layer with a row of the directory c, one of the file g, and one of no header; other
+-- the same layer with a row for the directory c, one for the file g, and one for no header; other
 -- nodes belong to user 7 and group 8
 abbrev pub owned_stack : Stacked
 owned_stack = record {
@@ -148,7 +146,7 @@ owned_stack = record {
   whole = true;
 }
 
--- the same rows, but of another layer
+-- the same rows, but in another layer
 abbrev pub elsewhere : Stacked
 elsewhere = record {
   layers = six_headers ∷ [];
@@ -169,8 +167,8 @@ pub record RowModeExamples : Type 0 where
   pub all_bits : mode_by (Some (row_for 0 0o7777)) 0x11a4 ≡ 0x1fff
   pub above : mode_by (Some (row_for 0 0o100640)) 0x41ed ≡ 0x41a0
 
--- a node with a row has its mode, ids and time; one without has its header's mode, the owner of
--- those without, and the time 0
+-- a node with a row has its mode, ids and time; one without has its header's mode, the default
+-- owner, and the time 0
 pub record RowExamples : Type 0 where
   pub file : attr_of owned_stack (0, 20) ≡ record {
     ino = 4;
@@ -205,8 +203,8 @@ pub record RowExamples : Type 0 where
 abbrev pub user_a : List ℕ → Extended
 user_a value = record { name = codes "user.a"; value = value }
 
--- the same rows: the directory c has user.a, and so has what no header is; the file g has an
--- attribute of this name alone
+-- the same rows: the directory c has user.a, and so has the row for no header; the file g has only
+-- an attribute with this name
 abbrev pub listed_stack : List ℕ → Stacked
 listed_stack name =
     record owned_stack {
@@ -215,7 +213,7 @@ listed_stack name =
           ∷ (record { name = name; value = [] } ∷ []) ∷ []) ∷ [];
     }
 
--- a node has the list of its row; where no shown node has any, the stack has none
+-- a node has the list of its row; if no shown node has any, the stack has none
 pub record XattrExamples : Type 0 where
   pub directory : xattrs_of (listed_stack (codes "user.b")) (0, 12) ≡ user_a (codes "b") ∷ []
   pub file : xattrs_of (listed_stack (codes "user.b")) (0, 20)

@@ -1,5 +1,5 @@
--- The shown paths of a stack in order, each with its place: all that the stack's numbers are
--- counted on.
+-- The shown paths of a stack in order, each with its place: the stack's numbers are counted from
+-- these.
 use Rattle.std.specs.Prelude.{◌≡◌, ℕ, ◌⊎◌, List, [], ◌∷◌, Bool, true, slice_get, Some}
 use Rattle.std.specs.declared.cmp.Ordering.{Ordering}
 use Rattle.std.specs.declared.cmp.Ordering.TheVariants.{Less}
@@ -21,7 +21,7 @@ pub record Entry : Type 0 where
 
 -- layers, lowest first, and entries that they show; the rows of attributes of each layer, the list
 -- of extended attributes for each row, and the owner of nodes without a row; and whether the layers
--- are complete, or have zeros where nothing is held of them
+-- are complete, or have zeros for what is not kept
 pub record Stacked : Type 0 where
   pub layers : List (List ℕ)
   pub entries : List Entry
@@ -30,7 +30,7 @@ pub record Stacked : Type 0 where
   pub owner : Owner
   pub whole : Bool
 
--- complete layers that have no rows, with the superuser as owner of everything
+-- complete layers without rows, with the superuser as owner of everything
 abbrev pub stacked : List (List ℕ) → List Entry → Stacked
 stacked layers entries = record {
   layers = layers;

@@ -52,8 +52,8 @@ node_of entries (suc n) = slice_get (nodes entries) n
 abbrev pub path_of : List Entry → Place → Path
 path_of entries p = option_map_or (λ e. e.path) (find (λ e. same_place p (place e)) entries) []
 
--- the place of the directory above: that of the path without its last name. Above the root is the
--- root
+-- the place of the parent directory: that of the path without its last name. The root is its own
+-- parent
 unfoldable pub parent : List Entry → Place → Place
 parent entries p =
     let path = path_of entries p in

@@ -10,7 +10,7 @@ use Rattle.romfs_format.specs.Chains.{Has}
 abbrev pub Path : Type 0
 Path = List (List ℕ)
 
--- what a marker's name begins with
+-- the prefix of a marker's name
 abbrev pub marker : List ℕ
 marker = codes ".wh."
 
@@ -22,7 +22,7 @@ opaque = codes ".wh..wh..opq"
 abbrev pub IsMarker : List ℕ → Type 0
 IsMarker name = IsTrue (starts_with nat_eq name marker)
 
--- no name of the path is a marker's
+-- no name of the path is that of a marker
 abbrev pub IsPlain : Path → Type 0
 IsPlain path = AllByRecursion (λ name. ¬ IsMarker name) path
 
@@ -34,12 +34,12 @@ IsIn a path = (h : ℕ) × Has a path h
 abbrev pub HasDirectory : List ℕ → Path → Type 0
 HasDirectory a path = (h : ℕ) × Has a path h × (kind a h ≡ Directory)
 
--- the layer a has the path, with a header that is no directory's
+-- the layer a has the path, with a header that is not a directory's
 abbrev pub HasOther : List ℕ → Path → Type 0
 HasOther a path = (h : ℕ) × Has a path h × (kind a h ≢ Directory)
 
--- of the directory q the layer a removes what lower layers have at y and below: it holds a marker
--- for y, a marker for all of q, or y itself as no directory
+-- in the directory q, the layer a removes what lower layers have at y and below: it holds a marker
+-- for y, a marker for all of q, or y itself and not as a directory
 abbrev pub CutsIn : List ℕ → Path → List ℕ → Type 0
 CutsIn a q y =
     HasDirectory a q

@@ -23,12 +23,12 @@ pub fn layers_example()
     ensures { LayerExamples }
 {}
 
-/// Nested directories: what lies in which, and how many names they have.
+/// Nested directories: what each contains, and how many names they have.
 pub fn nested_example()
     ensures { NestedExamples }
 {}
 
-/// Which bits of a mode a row says.
+/// Which bits of a mode a row gives.
 pub fn row_modes_example()
     ensures { RowModeExamples }
 {}

@@ -19,7 +19,7 @@ pub fn one_listing()
         IsListing layers xs → IsListing layers ys → xs ≡ ys }
 {}
 
-/// One layer shows exactly the paths that it has and that name no marker: its own markers cut
+/// One layer shows exactly the paths that it has and that do not name markers: its own markers cut
 /// nothing of its own.
 #[tactic(auto, using(crate::proofs::Joined::alone))]
 pub fn one_layer_shows_its_own()
@@ -41,9 +41,9 @@ pub fn laid_is_joined()
         IsCut (low ++ high) path ↔ (IsCut low path ⊎ IsCut high path) }
 {}
 
-/// Whiteouts: in a directory of a layer a marker for y cuts y and all below it, an opaque marker
-/// cuts all that is in the directory, and so does an entry that is no directory with what is at its
-/// place. The root is never cut.
+/// Whiteouts: in a directory of a layer a marker for y cuts y and everything below it, and an
+/// opaque marker cuts everything in the directory. An entry that is not a directory cuts what is at
+/// its place and below. The root is never cut.
 #[tactic(auto, using(crate::proofs::Joined::cuts_of_a_layer))]
 pub fn whiteouts_cut()
     ensures marker { (a : List ℕ) (q rest : Path) (y : List ℕ) →
@@ -58,8 +58,8 @@ pub fn whiteouts_cut()
     ensures root { (a : List ℕ) → ¬ Cuts a [] }
 {}
 
-/// An entry of any kind but a directory's cuts what lower layers have at its place and below: a
-/// file, a device, and a link over a directory too, wherever it leads.
+/// An entry of any kind except a directory cuts what lower layers have at its place and below: also
+/// a file, a device, or a link over a directory, wherever the link leads.
 pub fn all_but_directories_cut()
     ensures { (a : List ℕ) (q rest : Path) (y : List ℕ) (h : ℕ) →
         IsPlain (q ++ y ∷ rest) → HasDirectory a q →

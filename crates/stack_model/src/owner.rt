@@ -1,6 +1,6 @@
-//! Whom a node belongs to.
+//! The owner of a node.
 
-/// A user and a group, by their numbers, as stat(2) has them. Every number is one, 2^32 - 1 too.
+/// A user and a group, by their numbers, as in stat(2). Every number is valid, including 2^32 - 1.
 #[derive(Clone, Copy)]
 pub struct Owner {
     /// The user's number.

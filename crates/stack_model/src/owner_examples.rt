@@ -1,4 +1,4 @@
-//! The owner of a node for which its image names none.
+//! The owner of a node that its image gives no owner.
 
 ghost use Rattle.std.specs.Prelude.{◌≡◌};
 ghost use Rattle.stack_model.specs.declared.owner.TheConstants.Owner.{ROOT};

@@ -1,6 +1,5 @@
--- Images that are checked, one after another or in two halves. `one_more` and `all_checked` are the
--- loop; `joined` is the main lemma: what two halves come to is what the run does, of which the
--- lowest broken image is reported. The last lemmas say it of all images.
+-- Images that are checked, one after another or in two halves. `one_more` and `all_checked` are the loop; `joined` is the main lemma: the
+-- result of two halves is that of the run, of which the lowest broken image is reported. The last lemmas say it for all images.
 use Rattle.std.proofs.Common.{◌≡◌, ◌∙◌, sym, ap, ℕ, ◌+◌, ◌≤◌, inl, inr, take, drop, List, [], ◌∷◌, ◌++◌, append_assoc, append-nil, subst, refl, arith, length, map, All, Bool, Result, Ok, Err, IfOk, IfErr}
 use Rattle.std.proofs.lemmas.List.{length-map, length-append, map-append, take-append-drop, length-take-le}
 use Rattle.std.proofs.lemmas.List.Elements.{All-push, All-append}
@@ -47,7 +46,7 @@ none_taken profile all = record {
 
 module _ {A : Type 0} {profile : Profile} {all left : List (HeldImage A)} {kept : List HeldBytes} {rows : List (List AttributeRow)}
     {lists : List (List (List Extended))} (t : AreTaken profile all left kept rows lists) (x : HeldImage A) (rest : List (HeldImage A)) (next : left ≡ x ∷ rest) where
-  -- an image that keeps the rules goes from what is left to what is taken
+  -- an image that keeps the rules moves from those that are left to those that are taken
   pub one_more : (sound : HeldBytes) (its : List AttributeRow) (those : List (List Extended)) → sound ≡ accessible x
       → its ≡ rows_of profile x → those ≡ lists_of profile x → IsSound profile (held_bytes x)
       → AreTaken profile all rest (kept ++ sound ∷ []) (rows ++ its ∷ []) (lists ++ those ∷ [])
@@ -64,7 +63,7 @@ module _ {A : Type 0} {profile : Profile} {all left : List (HeldImage A)} {kept 
         ∙ sym (map-append (lists_of profile) t.below (x ∷ []));
   }
 
-  -- where the next image breaks a rule, it is the lowest that does
+  -- if the next image breaks a rule, it is the lowest that does
   pub next_breaks : (first n : ℕ) (fault : ImageFault) → n ≡ length kept → IsFault profile (held_bytes x) fault.rule fault.place
       → IsBroken first profile (map held_bytes all) (Layer (first + n) fault)
   next_breaks first n fault h f = (
@@ -94,7 +93,7 @@ nothing : {X : Type 0} (xs : List X) → length xs ≡ 0 → xs ≡ []
 nothing [] none = refl
 nothing (x ∷ xs) none = absurd (omega (arith, none))
 
--- where none is left, all are checked
+-- if none is left, all are checked
 pub all_checked : {A : Type 0} {profile : Profile} {all left : List (HeldImage A)} {kept : List HeldBytes}
     {rows : List (List AttributeRow)} {lists : List (List (List Extended))} (checked : Checked A)
     → AreTaken profile all left kept rows lists → length left ≡ 0 → checked.images.items ≡ kept → checked.rows.items ≡ rows
@@ -141,7 +140,7 @@ broken_low first profile lows highs (Layer layer fault) (n, at, broken) = (
 broken_low first profile lows highs Memory b = tt
 broken_low first profile lows highs (Layers count) b = absurd b
 
--- the upper half's is, where the lower half keeps the rules
+-- the upper half's is, if the lower half keeps the rules
 pub broken_high : (first : ℕ) (profile : Profile) (lows : List (List ℕ)) → All (IsSound profile) lows → (highs : List (List ℕ))
     (refusal : Refusal) → IsBroken (first + length lows) profile highs refusal → IsBroken first profile (lows ++ highs) refusal
 broken_high first profile lows low highs (Layer layer fault) (n, at, broken) = (
@@ -160,7 +159,7 @@ broken_high first profile lows low highs (Layer layer fault) (n, at, broken) = (
 broken_high first profile lows low highs Memory b = tt
 broken_high first profile lows low highs (Layers count) b = absurd b
 
--- both halves that were checked come to the images of both, or memory ran out
+-- the result of both checked halves is the images of both, or memory ran out
 pub joins_both : {A : Type 0} (low high : Result (Checked A) Refusal) (lows highs : Checked A) (result : Result (Checked A) Refusal)
     → low ≡ Ok lows → high ≡ Ok highs → IfOk result (AreBoth lows highs) → IfErr result (λ refusal. refusal ≡ Memory)
     → Joins low high result
@@ -168,7 +167,7 @@ joins_both low high lows highs (Ok all) e f ok err =
     subst (λ l. Joins l high (Ok all)) (sym e) (subst (λ h. Joins (Ok lows) h (Ok all)) (sym f) ok)
 joins_both low high lows highs (Err refusal) e f ok err = inl err
 
--- what two halves of a run come to, the upper one numbered on from where the lower one ends
+-- the result of two halves of a run, the upper one numbered on from where the lower one ends
 pub record AreHalves {A : Type 0} (first : ℕ) (profile : Profile) (lows highs : List (HeldImage A)) (low high : Result (Checked A) Refusal)
     : Type 0 where
   pub lower : Checks first profile lows low
@@ -190,7 +189,7 @@ module _ {A : Type 0} (first : ℕ) (profile : Profile) (lows highs : List (Held
   of_all : (refusal : Refusal) → IsBroken first profile all_bytes refusal → IsBroken first profile (map held_bytes (lows ++ highs)) refusal
   of_all refusal b = subst (λ xs. IsBroken first profile xs refusal) (sym (map-append held_bytes lows highs)) b
 
-  -- what two halves come to is what the run does
+  -- the result of two halves is that of the run
   pub joined : (low high result : Result (Checked A) Refusal) → AreHalves first profile lows highs low high → Joins low high result
       → Checks first profile (lows ++ highs) result
   joined (Ok xs) (Ok ys) (Ok all) h is = (whole profile lows highs xs ys all h.lower.0 h.upper.0 is, tt)
@@ -200,7 +199,7 @@ module _ {A : Type 0} (first : ℕ) (profile : Profile) (lows highs : List (Held
       (tt, subst (IsBroken first profile (map held_bytes (lows ++ highs))) (sym memory) tt)
   joined low high (Err refusal) h (inr is) = (tt, of_all refusal (refused_first low high refusal h is))
 
--- what broke off the check of a few images is why they are refused
+-- what stopped the check of a few images is why they are refused
 pub as_refused : {A : Type 0} (profile : Profile) (all : List (HeldImage A)) (refusal : Refusal) → IsFew (length all)
     → IsBroken 0 profile (map held_bytes all) refusal → AreRefused profile (map held_bytes all) refusal
 as_refused profile all (Layer layer fault) few (n, at, broken) = (

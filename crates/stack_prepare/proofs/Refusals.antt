@@ -1,5 +1,5 @@
--- Images are refused for one reason. `one_broken` is the heart: the lowest broken image is one, as all below it keep the rules. So there is
--- one reason but for lack of memory, and good images have only that.
+-- Images are refused for one reason. `one_broken` is the main lemma: the lowest broken image is unique, as all below it keep the rules. So
+-- there is one reason apart from lack of memory, and good images have only that.
 use Rattle.std.proofs.Common.{◌≡◌, ◌∙◌, sym, ap, subst, ℕ, suc, ◌<◌, ◌⊎◌, inl, inr, List, [], ◌∷◌, ◌++◌, length, All, refl, arith}
 use Rattle.std.proofs.lemmas.List.Elements.{All-head, All-tail}
 use Rattle.stack_model.specs.declared.limits.TheConstants.{MAX_LAYERS}

@@ -1,6 +1,5 @@
--- Images that were checked, stacked: `are_stacked` is the main lemma. Where no attributes are read a
--- stack shows what it shows without rows (`unasked`), and no node has an extended attribute
--- (`unasked_xattrs`).
+-- Images that were checked, stacked: `are_stacked` is the main lemma. If no attributes are read a stack shows what it shows without rows
+-- (`unasked`), and no node has an extended attribute (`unasked_xattrs`).
 use Rattle.std.proofs.Common.{◌≡◌, ◌∙◌, sym, ap, subst, ℕ, zero, suc, List, [], ◌∷◌, ◌++◌, append_assoc, map, length, Vec, None, Bool, false, true, refl, Result, Ok, Err, IfErr, IsErrAnd}
 use Rattle.std.proofs.lemmas.List.{length-map}
 use Rattle.std.proofs.lemmas.List.Folds.{list_all-map}
@@ -54,17 +53,17 @@ module _ {A : Type 0} {profile : Profile} {images : List (HeldImage A)} {checked
     listing = table.listing;
   }
 
-  -- it is whole where they are
+  -- it is whole if they are
   pub whole_are : all_whole checked.images.items ≡ are_whole images
   whole_are = ap all_whole seen.checked_are.are ∙ list_all-map (λ (h : HeldBytes). h.whole) accessible images
 
--- the next image goes from those that are left to those that are held
+-- the next image moves from those that are left to those that are held
 pub one_held : {X Y : Type 0} (w : Y → X) (all done : List X) (left rest : List Y) (y : Y) → all ≡ done ++ map w left → left ≡ y ∷ rest
     → all ≡ (done ++ w y ∷ []) ++ map w rest
 one_held w all done left rest y e l =
     e ∙ ap (λ ys. done ++ map w ys) l ∙ sym (append_assoc done (w y ∷ []) (map w rest))
 
--- images that are held whole have their bytes
+-- images that are held in full have their bytes
 pub whole_bytes : {A : Type 0} (images : List (Vec ℕ A)) (held : List (HeldImage A)) → held ≡ map Whole images
     → map held_bytes held ≡ map (λ (image : Vec ℕ A). image.items) images
 whole_bytes images held e = ap (map held_bytes) e ∙ both Whole held_bytes images
@@ -83,7 +82,7 @@ none_in f e [] i = refl
 none_in f e (b ∷ images) zero = e b
 none_in f e (b ∷ images) (suc i) = none_in f e images i
 
--- where no attributes are read, and all belongs to the superuser, attributes are those without rows
+-- if no attributes are read, and everything belongs to the superuser, attributes are those without rows
 pub unasked : (profile : Profile) (images : List (List ℕ)) (stack : Stacked) (p : Place) → reads_attributes profile ≡ false
     → AreStacked profile ROOT images stack → attr_of stack p ≡ attr_of (stacked stack.layers stack.entries) p
 unasked profile images stack p e s =
@@ -100,7 +99,7 @@ none_any : {X : Type 0} (f : X → Bool) (xs : List X) → ((x : X) → f x ≡ 
 none_any f [] e = refl
 none_any f (x ∷ xs) e = rw e (none_any f xs e)
 
--- where no attributes are read no node has an extended attribute
+-- if no attributes are read no node has an extended attribute
 pub unasked_xattrs : (profile : Profile) (owner : Owner) (images : List (List ℕ)) (stack : Stacked) → reads_attributes profile ≡ false
     → AreStacked profile owner images stack → has_xattrs stack ≡ false
 unasked_xattrs profile owner images stack e s =
@@ -113,7 +112,7 @@ unasked_xattrs profile owner images stack e s =
         ap (λ ls. list_in stack.rows ls p) s.lists_are ∙ ap (λ ls. list_at (slice_index_or stack.rows p.0 []) ls p.1) lists
         ∙ no_list (slice_index_or stack.rows p.0 []) p.1
 
--- a refusal that is passed on is what it was
+-- a refusal that is passed on is unchanged
 pub passed_on : {X : Type 0} (result : Result X Refusal) (P : Refusal → Type 0) (refusal : Refusal)
     → IsErrAnd result (λ told. told ≡ refusal) → P refusal → IfErr result P
 passed_on (Ok x) P refusal told p = tt

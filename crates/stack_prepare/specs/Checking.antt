@@ -15,7 +15,7 @@ use Rattle.stack_prepare.specs.declared.refusal.Refusal.{Refusal}
 use Rattle.stack_prepare.specs.declared.refusal.Refusal.TheVariants.{Layer, Layers, Memory}
 use Rattle.stack_prepare.specs.Layers.{IsFew, IsLowestBroken}
 
--- an image that is sound, by what was held of it: its accessible bytes, and whether all are held
+-- an image that is sound, by what is held of it: its accessible bytes, and whether all are held
 abbrev pub accessible : {A : Type 0} → HeldImage A → HeldBytes
 accessible held = record { bytes = image (held_bytes held); whole = is_whole held }
 
@@ -36,8 +36,8 @@ pub record AreChecked {A : Type 0} (profile : Profile) (images : List (HeldImage
   pub rows_are : checked.rows.items ≡ map (rows_of profile) images
   pub lists_are : checked.lists.items ≡ map (lists_of profile) images
 
--- of images that are numbered from this number on, the lowest that breaks a rule, and its fault; or
--- memory ran out
+-- of images numbered from this number on, the lowest that breaks a rule, and its fault; or memory
+-- ran out
 abbrev pub IsBroken : ℕ → Profile → List (List ℕ) → Refusal → Type 0
 IsBroken first profile images (Layer layer fault) =
     (n : ℕ) × (layer ≡ first + n) × IsLowestBroken profile images n fault
@@ -63,13 +63,13 @@ abbrev pub AreJoined : {A : Type 0} → Result (Checked A) Refusal → Result (C
 AreJoined (Ok low) (Ok high) all = AreBoth low high all
 AreJoined _ _ all = ⊥
 
--- of two halves of a run the lower one was refused for this, or else the upper one
+-- the first refusal of two halves of a run: the lower half's, otherwise the upper half's
 abbrev pub IsFirstRefusal : {T : Type 0} → Result T Refusal → Result T Refusal → Refusal → Type 0
 IsFirstRefusal (Err low) high refusal = refusal ≡ low
 IsFirstRefusal (Ok low) (Err high) refusal = refusal ≡ high
 IsFirstRefusal (Ok low) (Ok high) refusal = ⊥
 
--- what two halves of a run come to: the images of both; or lack of memory, or why the first was
+-- the result of two halves of a run: the images of both; or lack of memory, or why the first was
 -- refused
 abbrev pub Joins : {A : Type 0} → Result (Checked A) Refusal → Result (Checked A) Refusal
     → Result (Checked A) Refusal → Type 0

@@ -16,11 +16,11 @@ use Rattle.stack_prepare.specs.declared.refusal.Refusal.TheVariants.{Layer, Laye
 abbrev pub contents_of : {A B : Type 0} → Vec (Vec ℕ A) B → List (List ℕ)
 contents_of images = map (λ image. image.items) images.items
 
--- the bytes that are held of images, with zeros where nothing is kept
+-- the bytes that are held of images, with zeros for what is not kept
 abbrev pub held_contents : {A B : Type 0} → Vec (HeldImage A) B → List (List ℕ)
 held_contents images = map held_bytes images.items
 
--- all images are held whole
+-- all images are held in full
 abbrev pub are_whole : {A : Type 0} → List (HeldImage A) → Bool
 are_whole images = list_all is_whole images
 
@@ -54,7 +54,7 @@ AreRefused profile images (Layer layer fault) =
     IsFew (length images) × IsLowestBroken profile images layer fault
 AreRefused profile images Memory = IsFew (length images)
 
--- so many images are refused for their number alone
+-- this many images are refused for their number alone
 abbrev pub AreTooFewOrMany : ℕ → Refusal → Type 0
 AreTooFewOrMany count refusal =
     (refusal ≡ Layers count) × ((count ≡ 0) ⊎ (MAX_LAYERS < count))

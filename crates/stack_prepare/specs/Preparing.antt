@@ -7,7 +7,7 @@ use Rattle.stack_model.specs.Listing.{Stacked, IsListing}
 use Rattle.stack_prepare.specs.Layers.{AreLayers}
 
 -- all images keep the rules of the profile, and this is the stack of their accessible bytes, with
--- the rows of attributes and the lists of extended ones that the profile reads; all that has no row
+-- the rows and lists of extended attributes that the profile reads; everything without a row
 -- belongs to this owner
 pub record AreStacked (profile : Profile) (owner : Owner) (images : List (List ℕ))
     (stack : Stacked) : Type 0 where

@@ -1,4 +1,4 @@
-//! What several functions are generic over, named once.
+//! A bound that several functions share.
 
 use std::alloc::Allocator;
 

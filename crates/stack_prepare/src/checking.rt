@@ -1,7 +1,7 @@
-//! Images, some checked at the same time.
+//! Images, some of them checked at the same time.
 //!
 //! A list is cut in two, and so on; each half is checked in a call of its own, and the results are
-//! joined: if both have a broken image the lower half's is reported.
+//! joined: if both have a broken image, the lower half's is reported.
 
 ghost use Rattle.std.specs.Prelude.{◌≡◌, ◌+◌, ◌≤◌, length, IfOk, IfErr};
 ghost use Rattle.stack_prepare.specs.Layers.{AreRefused, IsFew, held_contents};
@@ -18,8 +18,8 @@ use romfs_rows::{RowLists, Rows};
 use std::alloc::Allocator;
 use std::thread::{Threads, join};
 
-/// Images that were checked, and the rows of attributes of each and the lists of extended ones for
-/// these, where the profile reads them.
+/// Images that were checked, with the rows of attributes of each and their lists of extended
+/// attributes, if the profile reads them.
 #[derive(Drop)]
 pub(crate) struct Checked<A: Allocator> {
     pub(crate) images: Vec<Image<A>, A>,
@@ -31,9 +31,9 @@ pub(crate) struct Checked<A: Allocator> {
 ///
 /// `Layer` names the lowest image that breaks a rule, counted from 0, and its fault. The gate is
 /// passed before each check. As many parts of a list are checked at the same time as there are
-/// processors, 16 at most ([`forks_of`]).
+/// processors, at most 16 ([`forks_of`]).
 ///
-/// It asks for 1 to 128 images.
+/// It requires 1 to 128 images.
 pub(crate) fn check_all<R: Threads + Sync, A: Allocator + Copy + Send + Sync, G: Gate + Sync>(
     rt: &R,
     alloc: A,
@@ -89,8 +89,8 @@ fn check_from<R: Threads + Sync, A: Allocator + Copy + Send + Sync, G: Gate + Sy
     together(low, high)
 }
 
-/// What two halves of a run come to: lack of memory in either, else the lower one's broken image,
-/// else the upper one's.
+/// The result of two halves of a run: lack of memory in either, otherwise the lower one's broken
+/// image, otherwise the upper one's.
 fn together<A: Allocator>(
     low: Result<Checked<A>, Refusal>,
     high: Result<Checked<A>, Refusal>,
@@ -130,7 +130,7 @@ fn joined<A: Allocator>(low: Checked<A>, high: Checked<A>) -> Result<Checked<A>,
     })
 }
 
-/// A run of images, of which the lowest has the number `first`, checked from the lowest up.
+/// A run of images whose lowest has the number `first`, checked from the lowest up.
 fn check_in_turn<A: Allocator + Copy, G: Gate>(
     alloc: A,
     first: u16,

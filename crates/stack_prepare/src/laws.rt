@@ -1,5 +1,5 @@
-//! Why images are refused, and what they show where no attributes are asked for: what follows from
-//! what [`crate::prepare`] promises.
+//! Why images are refused, and what they show if no attributes are read: what follows from what
+//! [`crate::prepare`] promises.
 
 ghost use Rattle.std.specs.Prelude.{◌≡◌, ◌⊎◌, List, ℕ, false};
 ghost use Rattle.stack_model.specs.declared.owner.Owner.{Owner};
@@ -14,7 +14,7 @@ ghost use Rattle.stack_prepare.specs.declared.refusal.Refusal.TheVariants.{Memor
 ghost use Rattle.stack_prepare.specs.Layers.{AreLayers, AreRefused};
 ghost use Rattle.stack_prepare.specs.Preparing.{AreStacked};
 
-/// Beside lack of memory, images are refused for one reason, and good ones for none.
+/// Apart from lack of memory, images are refused for one reason, and good ones for none.
 #[tactic(auto, using(crate::proofs::Refusals::one_reason))]
 pub fn refusals_are_one()
     ensures once { (profile : Profile) (images : List (List ℕ)) (r s : Refusal) →
@@ -24,9 +24,9 @@ pub fn refusals_are_one()
         AreLayers profile images layers → AreRefused profile images r → r ≡ Memory }
 {}
 
-/// Where a profile reads no attributes, and all belongs to the superuser, the attributes of each
-/// place are those of the layers without any rows, whatever stands behind the images. No node has
-/// an extended attribute then, whoever is the owner.
+/// If a profile reads no attributes, and everything belongs to the superuser, the attributes of
+/// each place are those of the layers without any rows, whatever follows the images. No node has an
+/// extended attribute then, whatever the owner.
 #[tactic(auto, using(crate::proofs::Stacked::unasked, crate::proofs::Stacked::unasked_xattrs))]
 pub fn attributes_are_asked_for()
     ensures usual { (profile : Profile) (images : List (List ℕ)) (stack : Stacked) (p : Place) →

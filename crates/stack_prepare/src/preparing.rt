@@ -20,14 +20,13 @@ use std::alloc::{AllocError, Allocator};
 use std::thread::Threads;
 
 /// Checks images by the rules of a profile and stacks them, the lowest layer first, into one table,
-/// with the rows of attributes that the profile reads, and the extended attributes of these; all
-/// that has no row belongs to an owner. Of
-/// images that stay in their files the table holds what is kept of their accessible bytes, and no
-/// more: where files have their data it has zeros.
+/// with the rows of attributes that the profile reads, and their extended attributes; everything
+/// without a row belongs to `owner`. For images that stay in their files the table holds only what
+/// is kept of their accessible bytes: where files have their data, it has zeros.
 ///
-/// `Layers` exactly if there are none or more than 128, before anything else is done; else `Layer`
-/// names the lowest image that breaks a rule, and its fault. The gate is passed before each check
-/// and each tree.
+/// `Layers` exactly if there are none or more than 128, before anything else is done; otherwise
+/// `Layer` names the lowest image that breaks a rule, and its fault. The gate is passed before each
+/// check and each tree.
 pub fn prepare<R: Threads + Sync, A: SharedAllocator, G: Gate + Sync>(
     rt: &R,
     alloc: A,
@@ -51,8 +50,8 @@ pub fn prepare<R: Threads + Sync, A: SharedAllocator, G: Gate + Sync>(
     Ok(table_of_layers(rt, alloc, tree, images, attributes)?)
 }
 
-/// Images that are held whole, 1 to 128 of them: `Layers` comes exactly where there are none or
-/// more, and `Memory` only where memory was refused.
+/// Images that are held in full, 1 to 128 of them: `Layers` exactly if there are none or more, and
+/// `Memory` only if memory is refused.
 pub fn whole_images<A: Allocator + Copy>(
     alloc: A,
     images: Vec<Vec<u8, A>, A>,
@@ -79,7 +78,7 @@ fn all_whole<A: Allocator + Copy>(
     Ok(held)
 }
 
-/// Whether so many layers can be stacked.
+/// Whether this many layers can be stacked.
 fn few(count: usize) -> Result<(), Refusal>
     ensures ok { IfOk result (λ _. IsFew count) }
     ensures err { IfErr result (AreTooFewOrMany count) }

@@ -6,10 +6,10 @@ ghost use Rattle.stack_prepare.specs.declared.refusal.Refusal.TheVariants.{Memor
 use romfs_format::ImageFault;
 use std::alloc::{AllocError, AllocFailed};
 
-/// Why images were not made a table.
+/// Why no table was made from images.
 #[derive(Clone, Copy, Debug, PartialEq, Eq)]
 pub enum Refusal {
-    /// The image of this layer, from 0 on, breaks a rule, and is the lowest that does.
+    /// The image of this layer, counted from 0, breaks a rule, and is the lowest that does.
     Layer { layer: u16, fault: ImageFault },
     /// There are this many images: none, or more than 128.
     Layers { count: u64 },

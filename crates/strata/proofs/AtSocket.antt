@@ -1,6 +1,5 @@
--- How the command `socket` ends, by how its sessions ended. `over_there` is of a command that did
--- all its steps, whatever its sessions stopped for, and `stopped_there` of one that could not serve
--- any; `unbound` says why none was bound.
+-- How the command `socket` ends, by how its sessions ended. `over_there` is about a command that did all its steps, whatever its sessions
+-- stopped for, and `stopped_there` about one that could not serve any; `unbound` says why no socket was bound.
 use Rattle.std.proofs.Common.{◌≡◌, refl, ℕ, ◌⊎◌, inl, inr, List, Option, Some, None, Result, Ok, Err, IfOk, IfErr}
 use Rattle.strata_words.specs.declared.options.Line.{Line}
 use Rattle.strata_words.specs.declared.options.Verb.TheVariants.{Socket}
@@ -49,7 +48,7 @@ module _ (A : Type 0) (words : List (List ℕ)) (line : Line) (images : List (Li
   over_there (Ok status) e = over_with status e.fault e.status_is e.served
   over_there (Err fault) e = e
 
-  -- where images were not stacked or no socket was bound, the command ended in that fault
+  -- if images were not stacked or no socket was bound, the command ended in that fault
   pub stopped_there : (r : Result ℕ Fault)
       → IfErr r (λ fault. IsOfImages (AreNotStacked (profile_of line) images) fault ⊎ IsNotBound line images fault)
       → IfErr r (λ fault. EndsInFault A words fault old old)

@@ -2,8 +2,8 @@
 -- it; `unread` is the end before that, and no fault has the status 0.
 use Rattle.std.proofs.Common.{◌≡◌, ◌≢◌, ◌≤◌, ◌∙◌, sym, subst, refl, ℕ, inl, inr, List, None, Result, Ok, Err, IfOk, IfErr, OnOk, MatchResult, IsErrAnd, arith, map, vec_len, Vec}
 use Rattle.std.proofs.lemmas.List.{length-map}
-use Rattle.serve_core.specs.declared.stop.Stop.{Stop}
-use Rattle.serve_core.specs.declared.stop.Stop.TheVariants as stops
+use Rattle.serve_loop.specs.declared.stream_fault.StreamFault.{StreamFault}
+use Rattle.serve_loop.specs.declared.stream_fault.StreamFault.TheVariants as stops
 use Rattle.strata_words.specs.declared.options.Line.{Line}
 use Rattle.strata_words.specs.declared.options.Verb.{Verb}
 use Rattle.strata_words.specs.CommandLine.{IsLineOf}
@@ -49,7 +49,7 @@ module _ (A : Type 0) (words : List (List ℕ)) (line : Line) (images : List (Li
     stopped = subst (λ v. IsStoppedOver A v line images fault old new) (sym verb_is) p;
   })
 
-  -- a command whose work had this result has ended so, with the status 0 if it was done
+  -- a command whose work gave this result has ended so, with the status 0 if it was done
   pub ended : {E Done : Type 0} {Stopped : E → Type 0} (told : E → Fault) (work : Result (Unit {0}) E) (r : Result ℕ Fault)
       → MatchResult work (λ _. r ≡ Ok 0) (λ fault. r ≡ Err (told fault)) → OnOk work Done → IfErr work Stopped
       → (Done → IsDoneOver A verb line images old new) → ((fault : E) → Stopped fault → IsStoppedOver A verb line images (told fault) old new)
@@ -73,9 +73,7 @@ unread {line = line} A old l fault f (Err told) e =
 abbrev pub IsStatus : ℕ → Type 0
 IsStatus n = (1 ≤ n) × (n ≤ 5)
 
-stop_range : (stop : Stop) → IsStatus (stop_status stop)
-stop_range (stops.Layer layer fault) = (omega arith, omega arith)
-stop_range (stops.Layers count) = (omega arith, omega arith)
+stop_range : (stop : StreamFault) → IsStatus (stop_status stop)
 stop_range (stops.BadLength at len) = (omega arith, omega arith)
 stop_range (stops.CutOff at) = (omega arith, omega arith)
 stop_range stops.Read = (omega arith, omega arith)

@@ -1,4 +1,4 @@
--- Sessions that are served one after another. `none_so_far` to `none_accepted` are how the loop begins, goes on and ends, `none_come` to
+-- Sessions that are served one after another. `none_so_far` to `none_accepted` are how the loop begins, continues and ends, `none_come` to
 -- `none_comes` how clients are counted. The main lemma is `tells`: the fault and the status say whether all were served to their end, which
 -- was the first that stopped, or that fewer were served.
 use Rattle.std.proofs.Common.{◌≡◌, ◌≢◌, ◌∙◌, sym, ap, subst, refl, ℕ, ◌+◌, ◌-◌, ◌^◌, ◌<◌, ◌⊎◌, inl, inr, List, [], ◌∷◌, ◌++◌, length, Option, Some, None, Result, Ok, Err, arith}
@@ -11,12 +11,10 @@ use Rattle.devices.specs.declared.counts.Pushes.{Pushes}
 use Rattle.devices.specs.Counting.{up, accepted}
 use Rattle.reply_model.specs.declared.session.Session.{Session}
 use Rattle.reply_model.specs.Readings.{Sourced}
-use Rattle.serve_core.specs.declared.stop.Stop.{Stop}
-use Rattle.serve_core.specs.declared.stop.Stop.TheVariants.{Read, Write}
+use Rattle.serve_loop.specs.declared.stream_fault.StreamFault.{StreamFault}
+use Rattle.serve_loop.specs.declared.stream_fault.StreamFault.TheVariants.{Read, Write}
 use Rattle.serve_loop.specs.declared.done.Done.{Done}
-use Rattle.devices.specs.declared.limits.TheConstants.{MAX_TURNS}
-use Rattle.serve_loop.specs.Serving.{IsCounted, Trace}
-use Rattle.serve_core.proofs.Stops.{ended_well, read_told, write_told}
+use Rattle.serve_loop.specs.Serving.{Trace}
 use Rattle.strata.specs.declared.faults.Fault.{Fault}
 use Rattle.strata.specs.declared.faults.Fault.TheVariants.{Accept, InSession}
 use Rattle.strata.specs.Faults.{status_of}
@@ -68,7 +66,7 @@ or_none : (fault : Option Fault) → or_later fault None ≡ fault
 or_none None = refl
 or_none (Some fault) = refl
 
--- the status where one more session follows
+-- the status if one more session follows
 status_later : (a b : Option Fault) (status ended more : ℕ) → status ≡ status_at a → ended ≡ status_at b
     → ((status ≡ 0) × (more ≡ ended)) ⊎ ((status ≢ 0) × (more ≡ status)) → more ≡ status_at (or_later a b)
 status_later None b status ended more s e (inl m) = m.1 ∙ e
@@ -80,12 +78,12 @@ or_assoc : (a b c : Option Fault) → or_later (or_later a b) c ≡ or_later a (
 or_assoc None b c = refl
 or_assoc (Some fault) b c = refl
 
-whole_of : {A : Type 0} (n : ℕ) (r : Result (Done A) Stop) → fault_of n r ≡ None → (done : Done A) × (r ≡ Ok done)
+whole_of : {A : Type 0} (n : ℕ) (r : Result (Done A) StreamFault) → fault_of n r ≡ None → (done : Done A) × (r ≡ Ok done)
 whole_of n (Ok done) e = (done, refl)
 whole_of n (Err stop) e = absurd (cc)
 
-stop_of : {A : Type 0} (n : ℕ) (r : Result (Done A) Stop) (fault : Fault) → fault_of n r ≡ Some fault → (stop : Stop) × (r ≡ Err stop)
-    × (fault ≡ InSession n stop)
+stop_of : {A : Type 0} (n : ℕ) (r : Result (Done A) StreamFault) (fault : Fault) → fault_of n r ≡ Some fault
+    → (stop : StreamFault) × (r ≡ Err stop) × (fault ≡ InSession n stop)
 stop_of n (Ok done) fault e = absurd (cc)
 stop_of n (Err stop) fault e = (stop, refl, cc)
 
@@ -93,7 +91,7 @@ module _ {A : Type 0} {first : Session} {by : Sourced} where
   same_number : (n m : ℕ) (s : ServedSession A first by) → n ≡ m → fault_of n s.result ≡ fault_of m s.result
   same_number n m s e = ap (λ k. fault_of k s.result) e
 
-  -- the first fault where one more session follows
+  -- the first fault if one more session follows
   first_more : (n : ℕ) (served : List (ServedSession A first by)) (s : ServedSession A first by)
       → first_fault n (served ++ s ∷ []) ≡ or_later (first_fault n served) (fault_of (n + length served) s.result)
   unfolding first_fault
@@ -109,7 +107,7 @@ module _ {A : Type 0} {first : Session} {by : Sourced} where
   unfolding first_fault
   none_so_far = record { served = []; count_is = refl; status_is = refl }
 
-  -- with one session more the status is as it was, or that of this session where it was 0
+  -- with one more session the status is unchanged, or that of this session if it was 0
   pub one_more : (count status ended more : ℕ) → AreSoFar A first by count status
       → (s : ServedSession A first by) × (ended ≡ status_at (fault_of (count + 1) s.result))
       → ((status ≡ 0) × (more ≡ ended)) ⊎ ((status ≢ 0) × (more ≡ status))
@@ -126,13 +124,13 @@ module _ {A : Type 0} {first : Session} {by : Sourced} where
             ∙ ap status_at (sym (first_more 1 so_far.served s));
       }
 
-  -- no session is to blame for an accept
+  -- no session is at fault for an accept
   none_failed : (n : ℕ) (served : List (ServedSession A first by)) → accept_failures (first_fault n served) ≡ 0
   unfolding first_fault
   none_failed n [] = refl
   none_failed n (s ∷ more) = go s.result (none_failed (n + 1) more)
     where
-      go : (r : Result (Done A) Stop) → accept_failures (first_fault (n + 1) more) ≡ 0
+      go : (r : Result (Done A) StreamFault) → accept_failures (first_fault (n + 1) more) ≡ 0
           → accept_failures (or_later (fault_of n r) (first_fault (n + 1) more)) ≡ 0
       go (Ok done) e = e
       go (Err stop) e = refl
@@ -153,7 +151,7 @@ module _ {A : Type 0} {first : Session} {by : Sourced} where
     };
   }
 
-  -- where no client comes they end with the status of that
+  -- if no client comes they end with the status of that fault
   pub none_accepted : (at count status ended : ℕ) (before now after : Accepts) → AreSoFar A first by at status → at < count
       → ended ≡ status_of Accept → HaveCome at before now → (after.clients ≡ now.clients) × (after.failures ≡ before.failures + 1)
       → EndWith A first by count ended (accepting before after)
@@ -167,7 +165,7 @@ module _ {A : Type 0} {first : Session} {by : Sourced} where
     };
   }
 
-  -- where there is none, all sessions were served to their end
+  -- if there is none, all sessions were served to their end
   pub none_stopped : (n : ℕ) (served : List (ServedSession A first by)) → first_fault n served ≡ None → AllByRecursion IsWhole served
   unfolding first_fault
   none_stopped n [] e = tt
@@ -179,7 +177,7 @@ module _ {A : Type 0} {first : Session} {by : Sourced} where
       go (Some fault) is rest e = absurd (cc)
 
   -- of sessions that are numbered from n on the first that stopped has this number
-  record IsFirstFrom (n : ℕ) (served : List (ServedSession A first by)) (number : ℕ) (stop : Stop) : Type 0 where
+  record IsFirstFrom (n : ℕ) (served : List (ServedSession A first by)) (number : ℕ) (stop : StreamFault) : Type 0 where
     before : List (ServedSession A first by)
     stopped : ServedSession A first by
     after : List (ServedSession A first by)
@@ -189,16 +187,16 @@ module _ {A : Type 0} {first : Session} {by : Sourced} where
     result_is : stopped.result ≡ Err stop
 
   stopped_first : (fault : Fault) (n : ℕ) (served : List (ServedSession A first by)) → first_fault n served ≡ Some fault
-      → (number : ℕ) × (stop : Stop) × (fault ≡ InSession number stop) × IsFirstFrom n served number stop
+      → (number : ℕ) × (stop : StreamFault) × (fault ≡ InSession number stop) × IsFirstFrom n served number stop
   unfolding first_fault
   stopped_first fault n [] e = absurd (cc)
   stopped_first fault n (s ∷ more) e = go (fault_of n s.result) refl (stopped_first fault (n + 1) more) e
     where
       go : (o : Option Fault) → fault_of n s.result ≡ o
-          → (first_fault (n + 1) more ≡ Some fault → (number : ℕ) × (stop : Stop) × (fault ≡ InSession number stop)
+          → (first_fault (n + 1) more ≡ Some fault → (number : ℕ) × (stop : StreamFault) × (fault ≡ InSession number stop)
           × IsFirstFrom (n + 1) more number stop)
           → or_later o (first_fault (n + 1) more) ≡ Some fault
-          → (number : ℕ) × (stop : Stop) × (fault ≡ InSession number stop) × IsFirstFrom n (s ∷ more) number stop
+          → (number : ℕ) × (stop : StreamFault) × (fault ≡ InSession number stop) × IsFirstFrom n (s ∷ more) number stop
       go None is rest e =
           let later = rest e in
           let at = later.3 in (
@@ -253,18 +251,16 @@ module _ {A : Type 0} {first : Session} {by : Sourced} where
 
   -- the fault that sessions end with is that of one of them, or that no client could be accepted
   pub of_sessions : {clients : Accepting} (count : ℕ) (fault : Fault) → AreServed A first by count (Some fault) clients
-      → (fault ≡ Accept) ⊎ ((number : ℕ) × (stop : Stop) × (fault ≡ InSession number stop) × (t : Trace) × IsSession {A = A} first by 0 t
-      (Err stop))
+      → (fault ≡ Accept) ⊎ ((number : ℕ) × (stop : StreamFault) × (fault ≡ InSession number stop))
   of_sessions count fault a =
       elim a.ends [
         | inl e ↦
             let at = stopped_first fault 1 a.served (sym e.1) in
-            let s = at.3.stopped in
-            inr (at.0, at.1, at.2, s.trace, subst (λ r. IsSession first by 0 s.trace r) at.3.result_is s.is)
+            inr (at.0, at.1, at.2)
         | inr e ↦ inl (cc)
       ]
 
-  -- what sessions that end with this fault, or none, tell
+  -- what the end of sessions with this fault, or none, means
   pub tells : {clients : Accepting} (count status : ℕ) (fault : Option Fault) → status ≡ status_at fault
       → AreServed A first by count fault clients → TellsOfSessions A first by count fault status
   tells count status None e a =
@@ -288,7 +284,7 @@ module _ {A : Type 0} {first : Session} {by : Sourced} where
   -- a session that was served to its end met it once, and neither side of it failed
   pub met_its_end : (counted : ℕ) (t : Trace) (done : Done A) → IsSession first by counted t (Ok done) → HasMetItsEnd t
   met_its_end counted t done s =
-      let told = subst (IsCounted MAX_TURNS t) (ended_well done s.run.ended s.run.result_is) s.run.run.counted in
+      let told = s.run.counted in
       record {
         ends = told.ends ∙ ap (λ (p : Pulls). p.ends + 1) s.first_pull;
         reads = told.read ∙ ap (λ (p : Pulls). p.failures + 0) s.first_pull;
@@ -298,15 +294,15 @@ module _ {A : Type 0} {first : Session} {by : Sourced} where
   -- one that a failed read or write ended counts that one failure
   pub failed_to_read : (counted : ℕ) (t : Trace) → IsSession {A = A} first by counted t (Err Read) → t.source.failures ≡ 1
   failed_to_read counted t s =
-      let told = subst (IsCounted MAX_TURNS t) (read_told s.run.ended s.run.result_is) s.run.run.counted in
+      let told = s.run.counted in
       told.read ∙ ap (λ (p : Pulls). p.failures + 1) s.first_pull
 
   pub failed_to_write : (counted : ℕ) (t : Trace) → IsSession {A = A} first by counted t (Err Write) → t.sink.failures ≡ 1
   failed_to_write counted t s =
-      let told = subst (IsCounted MAX_TURNS t) (write_told s.run.ended s.run.result_is) s.run.run.counted in
+      let told = s.run.counted in
       told.write ∙ ap (λ (p : Pushes). p.failures + 1) s.first_push
 
--- what the status of sessions tells, whatever they end with
+-- what the status of sessions means, whatever they end with
 pub sessions_tell : (A : Type 0) (first : Session) (by : Sourced) (count status : ℕ) (clients : Accepting)
     → EndWith A first by count status clients → (fault : Option Fault) × TellsOfSessions A first by count fault status
 sessions_tell A first by count status clients e = (e.fault, tells count status e.fault e.status_is e.served)

@@ -1,5 +1,5 @@
 -- How a run over an open /dev/fuse ends, by how its last step ended: done, or stopped with a fault, which means an unmount or not.
--- `has_stopped_there` is the main lemma: it has a case for each. `stays` and `goes` say what its status tells.
+-- `has_stopped_there` is the main lemma: it has a case for each. `stays` and `goes` say what its status means.
 use Rattle.std.proofs.Common.{◌≡◌, ◌≢◌, ◌∙◌, sym, ap, subst, refl, ℕ, Bool, true, false, inl, inr, List, Option, Some, None, if◌then◌else◌, true≢false}
 use Rattle.std.specs.Io.Buffered.{reader_remaining}
 use Rattle.devices.specs.Counting.{no_pulls, no_pushes}
@@ -9,7 +9,7 @@ use Rattle.serve_device.specs.declared.source.MessageTap.{MessageTap}
 use Rattle.serve_device.specs.MountEnds.{MountEnds, ends}
 use Rattle.serve_device.specs.Spouts.{spout_gone}
 use Rattle.serve_device.specs.Taps.{buffered_of, tap_gone}
-use Rattle.serve_core.specs.declared.stop.Stop.TheVariants as stops
+use Rattle.serve_loop.specs.declared.stream_fault.StreamFault.TheVariants as stops
 use Rattle.strata.specs.declared.faults.Fault.{Fault}
 use Rattle.strata.specs.declared.faults.Fault.TheVariants.{Usage, RequestsFile, RepliesFile, BalancesFile, Bind, Accept, Images, InSession, Stopped}
 use Rattle.strata.specs.Faults.{status_of}
@@ -71,9 +71,9 @@ module _ (A : Type 0) (words : List (List ℕ)) (old new : MountEnds) where
       go None e d = subst (λ n. IsRunOnDevice A words n old new) (sym e) (has_done_there d)
       go (Some fault) e s = has_stopped_there status fault s.1 (e ∙ sym (told_there fault new.input_gone new.output_gone s.0))
 
-  -- ---- what its status tells
+  -- ---- what its status means
 
-  -- where it stopped and the mount is there, the status means what it means over streams
+  -- if it stopped and there was no unmount, the status means what it means over streams
   pub stays : (status : ℕ) → IsRunOnDevice A words status old new → status ≢ 0 → EndsWith A words status old.devices new.devices
   stays status r n =
       let s = r.stopped n in
@@ -87,8 +87,6 @@ module _ (A : Type 0) (words : List (List ℕ)) (old new : MountEnds) where
       → EndsInFault A words fault old.devices new.devices → IsTakenAway A words old.devices new.devices
   away_by (Stopped stops.Read) input output e s = record { stop = stops.Read; stream = inl refl; ended = s }
   away_by (Stopped stops.Write) input output e s = record { stop = stops.Write; stream = inr refl; ended = s }
-  away_by (Stopped (stops.Layer layer fault)) input output e s = absurd (true≢false (sym e))
-  away_by (Stopped (stops.Layers count)) input output e s = absurd (true≢false (sym e))
   away_by (Stopped (stops.BadLength at len)) input output e s = absurd (true≢false (sym e))
   away_by (Stopped (stops.CutOff at)) input output e s = absurd (true≢false (sym e))
   away_by (Stopped stops.Turns) input output e s = absurd (true≢false (sym e))

@@ -1,6 +1,6 @@
--- What was gathered from images for a line. It was, where the line's sources show images (of_files), and these are served (served_shown).
--- The images can be stacked (good_of_files), and requests get what is defined over them, if reads give their bytes (told_of_files);
--- whatever reads give, all but READs do (told_others).
+-- What was gathered from images for a line. It was, if the line's sources show images (of_files), and these are served (served_shown). The
+-- images can be stacked (good_of_files), and requests get the replies that are defined over them, if reads return their bytes
+-- (told_of_files); whatever reads return, all but READs do (told_others).
 use Rattle.std.proofs.Common.{◌≡◌, ◌≢◌, ◌∙◌, ◌≤◌, ◌⊎◌, ◌↔◌, ◌||◌, sym, ap, subst, ℕ, inl, inr, List, [], ◌∷◌, Bool, true, false, length, map, Some, None, arith, refl, if◌then◌else◌}
 use Rattle.devices.specs.Sources.{Source, IfShown, held}
 use Rattle.romfs_files.specs.declared.loaded.Trailers.{Trailers}

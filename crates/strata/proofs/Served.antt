@@ -1,9 +1,9 @@
--- What serving left, by the devices that it was between. The first lemmas say which device was touched, with a file instead of it or not;
--- the others derive how `serve` ended: stopped, complete, or complete but for its balances.
+-- What serving left, by the devices that it used. The first lemmas say which device was touched, with a file instead of it or not; the
+-- others derive how `serve` ended: stopped, complete, or complete except for its balances.
 use Rattle.std.proofs.Common.{◌≡◌, ◌∙◌, sym, ap, refl, subst, ℕ, ◌⊎◌, inl, inr, List, Option, None, Some, is_some, true, false, true≢false, Result, Ok, Err, OnOk, IfErr, IsErrAnd}
 use Rattle.strata_words.specs.declared.options.Line.{Line}
 use Rattle.reply_model.specs.Readings.{Sourced}
-use Rattle.serve_core.specs.declared.stop.Stop.{Stop}
+use Rattle.serve_loop.specs.declared.stream_fault.StreamFault.{StreamFault}
 use Rattle.serve_loop.specs.declared.done.Done.{Done}
 use Rattle.devices.specs.States.{Devices, SourceState, SinkState}
 use Rattle.serve_loop.specs.Serving.{Trace}
@@ -18,19 +18,19 @@ none_where : {X : Type 0} (o : Option X) → is_some o ≡ false → o ≡ None
 none_where None e = refl
 none_where (Some x) e = absurd (true≢false e)
 
--- where none is named there is no file
+-- if none is named there is no file
 pub same_none : {X Y : Type 0} (named : Option X) (file : Option Y) → is_some file ≡ is_some named → named ≡ None → file ≡ None
 same_none named file same none = none_where file (same ∙ ap is_some none)
 
--- where there is a file, one is named
+-- if there is a file, one is named
 pub no_file : {X Y : Type 0} (named : Option X) (file : Option Y) (x : Y) → is_some file ≡ is_some named → file ≡ Some x → named ≡ None → ⊥
 no_file named file x same some none = true≢false (ap is_some (sym some) ∙ same ∙ ap is_some none)
 
--- without a file the replies went to the output, which took them
+-- without a file the replies were written to the output, which took them
 pub to_output : {F : Type 0} (file : Option F) (t : Trace) (old new : SinkState) → file ≡ None → Took t old new → GetsReplies file t old new
 to_output file t old new none took = record { took = λ _. took; kept = λ some. absurd (true≢false (sym some ∙ ap is_some none)) }
 
--- replies that went to a file left the output as it was
+-- replies that were written to a file left the output unchanged
 pub to_file : {F : Type 0} (file : Option F) (x : F) (t : Trace) (old : SinkState) → file ≡ Some x → GetsReplies file t old old
 to_file file x t old some = record { took = λ none. absurd (true≢false (ap is_some (sym some) ∙ ap is_some none)); kept = λ _. refl }
 
@@ -44,7 +44,7 @@ pub from_input : {F X E : Type 0} (named : Option F) (t : Trace) (result : Resul
     → Gave t result old new → Asks named t result old new
 from_input named t result old new none gave = record { gave = λ _. gave; kept = λ some. absurd (true≢false (sym some ∙ ap is_some none)) }
 
--- requests that came from a file left the input as it was
+-- requests that came from a file left the input unchanged
 pub from_file : {F G X E : Type 0} (named : Option F) (file : Option G) (x : G) (t : Trace) (result : Result X E) (old : SourceState)
     → is_some file ≡ is_some named → file ≡ Some x → Asks named t result old old
 from_file named file x t result old same some = record { gave = λ none. absurd (no_file named file x same some none); kept = λ _. refl }
@@ -64,8 +64,8 @@ module _ (A : Type 0) (line : Line) (images : List (List ℕ)) (old new : Device
 
   module _ (by : Sourced) (prepared : ArePrepared line images by) where
     -- serving stopped
-    pub stopped : (r : Result (Done A) Stop) (stop : Stop) (told : Result (Unit {0}) Fault) → (t : Trace) × IsServing line by t r old new
-        → r ≡ Err stop
+    pub stopped : (r : Result (Done A) StreamFault) (stop : StreamFault) (told : Result (Unit {0}) Fault)
+        → (t : Trace) × IsServing line by t r old new → r ≡ Err stop
         → IsErrAnd told (λ fault. fault ≡ Stopped stop) → IfErr told (λ fault. IsNotServed A line images fault old new)
     stopped r stop (Ok u) s e f = absurd f
     stopped r stop (Err fault) s e f = inr (inr (inl (record {
@@ -77,8 +77,8 @@ module _ (A : Type 0) (line : Line) (images : List (List ℕ)) (old new : Device
       serving = subst (λ v. IsServing line by s.0 v old new) e s.1;
     })))
 
-    -- serving went to its end, whatever came of the balances
-    pub whole : (r : Result (Done A) Stop) (done : Done A) → (t : Trace) × IsServing line by t r old new → r ≡ Ok done
+    -- serving reached its end, whatever happened to the balances
+    pub whole : (r : Result (Done A) StreamFault) (done : Done A) → (t : Trace) × IsServing line by t r old new → r ≡ Ok done
         → IsServedWhole A line images old new
     whole r done s e = record {
       by = by;
@@ -96,7 +96,7 @@ module _ (A : Type 0) (line : Line) (images : List (List ℕ)) (old new : Device
   lost file (Ok u) w same l = l
   lost file (Err fault) w same l = inr (inr (inr (record { named = sym same ∙ l.0; told = l.1; served = w })))
 
-  -- a stream that was served to its end is so if its balances are written
+  -- a stream is served to its end if its balances are written
   pub in_time : (told : Result (Unit {0}) Fault) → IsServedWhole A line images old new → OnOk told (IsServedWhole A line images old new)
   in_time (Ok u) w = w
   in_time (Err fault) w = tt

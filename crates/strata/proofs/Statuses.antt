@@ -1,23 +1,18 @@
--- What the exit statuses of the program mean. `ends_for_words` and `ends_for_images` say what 2 and
--- 3 tell: each goes over all that can end a command, and rules out what has another status.
--- `has_done`, `has_stopped` and `has_ended` put a run together by the status of its last step.
-use Rattle.std.proofs.Common.{◌≡◌, ◌≢◌, ◌∙◌, sym, ap, subst, ℕ, ◌≤◌, ◌⊎◌, inl, inr, List, length, All, Option, Some, None, Err, refl, arith}
+-- What the exit statuses of the program mean. `ends_for_words` and `ends_for_images` say what 2 and 3 mean: each goes through everything
+-- that can end a command, and rules out what has another status. `has_done`, `has_stopped` and `has_ended` put a run together by the status
+-- of its last step.
+use Rattle.std.proofs.Common.{◌≡◌, ◌≢◌, ◌∙◌, sym, ap, subst, ℕ, ◌≤◌, ◌⊎◌, inl, inr, List, length, All, Option, Some, None, refl, arith}
 use Rattle.romfs_format.specs.declared.rule.Profile.{Profile}
 use Rattle.romfs_format.specs.Rules.{IsSound}
-use Rattle.serve_core.specs.declared.stop.Stop.{Stop}
-use Rattle.serve_core.specs.declared.stop.Stop.TheVariants as stops
+use Rattle.serve_loop.specs.declared.stream_fault.StreamFault.TheVariants as stops
 use Rattle.strata_words.specs.declared.options.Line.{Line}
 use Rattle.strata_words.specs.declared.options.LineFault.{LineFault}
 use Rattle.strata_words.specs.declared.options.LineFault.TheVariants as lines
 use Rattle.strata_words.specs.declared.options.Verb.{Verb}
 use Rattle.strata_words.specs.declared.options.Verb.TheVariants as verbs
 use Rattle.strata_words.specs.CommandLine.{IsRefused, IsMisnumbered, IsMissealed, IsCrossed, IsLineFault}
-use Rattle.reply_model.specs.declared.session.Session.{Session}
-use Rattle.reply_model.specs.Readings.{Sourced}
 use Rattle.stack_prepare.specs.Layers.{AreRefused}
 use Rattle.devices.specs.States.{Devices}
-use Rattle.serve_loop.specs.Serving.{Trace}
-use Rattle.serve_core.proofs.Stops.{never_broken, never_many}
 use Rattle.stack_prepare.specs.declared.refusal.Refusal.{Refusal}
 use Rattle.stack_prepare.specs.declared.refusal.Refusal.TheVariants as refusals
 use Rattle.stack_prepare.proofs.Refusals.{not_few, none_broken}
@@ -27,11 +22,10 @@ use Rattle.strata_images.specs.declared.faults.ImagesFault.{ImagesFault}
 use Rattle.strata_images.specs.declared.faults.ImagesFault.TheVariants as faults
 use Rattle.strata_images.specs.Faults.{refusal_told_of, status_of as images_status}
 use Rattle.strata_images.specs.Images.{AreNotStacked, profile_of}
-use Rattle.strata.specs.Faults.{IsOfImages, status_of, stop_status, out_of_memory, line_told_of}
-use Rattle.serve_core.specs.Headline.{nodes_counted}
-use Rattle.strata.specs.Ending.{counted_of, first_of, HasUnreadImage, IsStoppedOver, IsDone, EndsInFault, EndsWith, IsOver, IsOverWith, IsRunOf}
+use Rattle.strata.specs.Faults.{IsOfImages, status_of, out_of_memory, line_told_of}
+use Rattle.strata.specs.Ending.{HasUnreadImage, IsStoppedOver, IsDone, EndsInFault, EndsWith, IsOver, IsOverWith, IsRunOf}
 use Rattle.strata.specs.Laws.{AreBad, AreToBlame, AreUnsealed}
-use Rattle.strata.specs.Sessions.{IsSession, status_at}
+use Rattle.strata.specs.Sessions.{status_at}
 use Rattle.strata.proofs.Blames.{stop_of}
 use Rattle.strata.proofs.Ended.{IsStatus, fault_range, fault_status}
 use Rattle.strata.proofs.InTurn.{of_sessions}
@@ -129,9 +123,6 @@ two_is_less e = absurd (omega arith)
 five_is_more : ◌≢◌ {A = ℕ} 5 3
 five_is_more e = absurd (omega arith)
 
-four_is_more : ◌≢◌ {A = ℕ} 4 3
-four_is_more e = absurd (omega arith)
-
 three_of : (fault other : Fault) → fault ≡ other → status_of fault ≡ 3 → status_of other ≡ 3
 three_of fault other f e = sym (ap status_of f) ∙ e
 
@@ -149,18 +140,6 @@ unstacked_bad : (profile : Profile) (images : List (List ℕ)) (fault : Fault) �
 unstacked_bad profile images fault f e =
     refused_bad profile images f.2.refusal f.2.refused (sym (ap status_of (f.1 ∙ ap Images f.2.told)) ∙ e)
 
--- no session is stopped for images
-session_less : {A : Type 0} (first : Session) (by : Sourced) (counted : ℕ) (t : Trace) (stop : Stop)
-    → IsSession {A = A} first by counted t (Err stop) → stop_status stop ≢ 3
-session_less first by counted t (stops.Layers count) s e = never_many count s.run.ended s.run.result_is
-session_less first by counted t (stops.Layer layer fault) s e = never_broken layer fault s.run.ended s.run.result_is
-session_less first by counted t stops.Memory s e = five_is_more e
-session_less first by counted t (stops.BadLength at len) s e = four_is_more e
-session_less first by counted t (stops.CutOff at) s e = four_is_more e
-session_less first by counted t stops.Read s e = one_is_less e
-session_less first by counted t stops.Write s e = one_is_less e
-session_less first by counted t stops.Turns s e = four_is_more e
-
 work_bad : (A : Type 0) (verb : Verb) (line : Line) (images : List (List ℕ)) (fault : Fault) (old new : Devices)
     → IsStoppedOver A verb line images fault old new → status_of fault ≡ 3 → AreBad (profile_of line) images
 work_bad A verbs.Serve line images fault old new s e =
@@ -171,8 +150,7 @@ work_bad A verbs.Serve line images fault old new s e =
         | inr (inr w) ↦ absurd (one_is_less (three_of fault BalancesFile w.0 e))
       ]
       | inr (inl r) ↦ unstacked_bad (profile_of line) images fault r.0 e
-      | inr (inr (inl p)) ↦ absurd (session_less (first_of line) p.by (nodes_counted (counted_of line) p.by.stack) p.trace p.stop p.serving.session
-          (three_of fault (Stopped p.stop) p.told e))
+      | inr (inr (inl p)) ↦ absurd ((stop_of p.stop).images (three_of fault (Stopped p.stop) p.told e))
       | inr (inr (inr b)) ↦ elim b.told [
         | inl w ↦ absurd (one_is_less (three_of fault (Stopped stops.Write) w e))
         | inr w ↦ absurd (five_is_more (three_of fault out_of_memory w e))
@@ -184,7 +162,7 @@ work_bad A verbs.Socket line images fault old new s e =
       | inr (inl b) ↦ absurd (one_is_less (three_of fault Bind b.told e))
       | inr (inr served) ↦ elim (of_sessions {A = A} line.sessions fault served.served) [
         | inl accept ↦ absurd (one_is_less (three_of fault Accept accept e))
-        | inr s ↦ absurd (session_less (first_of line) served.by 0 s.3 s.1 s.4 (three_of fault (InSession s.0 s.1) s.2 e))
+        | inr s ↦ absurd ((stop_of s.1).images (three_of fault (InSession s.0 s.1) s.2 e))
       ]
     ]
 work_bad A verbs.Check line images fault old new s e =
@@ -252,7 +230,7 @@ ends_for_images A words old new e =
       })
     ]
 
--- ---- a whole run
+-- ---- an entire run
 
 -- a program that did what its words say is a run with the status 0
 pub has_done : (A : Type 0) (words : List (List ℕ)) (old new : Devices) → IsDone A words old new → IsRunOf A words 0 old new
@@ -269,7 +247,7 @@ has_stopped A words status fault old new s e =
       untouched = λ two. (ends_for_words A words old new (subst (λ n. EndsWith A words n old new) two ends)).1;
     }
 
--- where it did all its steps, by what its sessions end with
+-- if it did all its steps, by what its sessions end with
 pub has_ended : (A : Type 0) (words : List (List ℕ)) (status : ℕ) (old new : Devices) → IsOverWith A words status old new
     → IsRunOf A words status old new
 has_ended A words status old new r = go r.fault r.status_is r.over

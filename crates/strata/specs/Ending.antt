@@ -3,7 +3,7 @@ use Rattle.std.specs.Prelude.{◌≡◌, ◌≢◌, ◌⊎◌, ◌||◌, ℕ, Li
 use Rattle.std.specs.Io.KnownBytes.{Appends, Consumes, IsAtEnd}
 use Rattle.devices.specs.Counting.{no_pulls, no_pushes, no_accepts}
 use Rattle.devices.specs.States.{SourceState, SinkState, Devices}
-use Rattle.serve_core.specs.declared.stop.Stop.{Stop}
+use Rattle.serve_loop.specs.declared.stream_fault.StreamFault.{StreamFault}
 use Rattle.serve_loop.specs.declared.done.Done.{Done}
 use Rattle.serve_loop.specs.Serving.{Trace}
 use Rattle.reply_model.specs.declared.session.Session.{Session}
@@ -28,17 +28,19 @@ use Rattle.strata.specs.Faults.{IsOfImages, line_told_of, status_of, out_of_memo
 use Rattle.strata.specs.Texts.{version_line}
 use Rattle.strata.specs.Sessions.{Accepting, AreServed, status_at, IsSession}
 
--- the session that its stream begins in: over a device, and if the line says so, the client learns
+-- the session in which its stream begins: over a device, or if the line says so, the client learns
 -- that the tree never changes
 abbrev pub first_of : Line → Session
 first_of line = if line.lasting || line.device then LastingFresh else Fresh
 
--- the nodes whose lookups are counted: all if the line names a file for their balances, else none
+-- the nodes whose lookups are counted: all if the line names a file for their balances, otherwise
+-- none
 abbrev pub counted_of : Line → Counted
 counted_of line = if is_some line.balances then AllNodes else NoNodes
 
 -- a stream was served over a stack and its sources as a session of its own, as the line says
-abbrev pub IsSessionOf : {A : Type 0} → Line → Sourced → Trace → Result (Done A) Stop → Type 0
+abbrev pub IsSessionOf : {A : Type 0} → Line → Sourced → Trace → Result (Done A) StreamFault
+    → Type 0
 IsSessionOf line by t result =
     IsSession (first_of line) by (nodes_counted (counted_of line) by.stack) t result
 
@@ -47,7 +49,7 @@ pub record AreNew (devices : Devices) : Type 0 where
   pub pulls : devices.source.counts ≡ no_pulls
   pub pushes : devices.sink.counts ≡ no_pushes
 
--- lines were not put: the output failed, or memory ran out and it is as it was
+-- lines were not written: the output failed, or memory ran out and the output is unchanged
 abbrev pub AreNotPut : List ℕ → SinkState → SinkState → Fault → Type 0
 AreNotPut lines old new fault =
     ((fault ≡ write_failed) × AreLost lines old new) ⊎ ((fault ≡ out_of_memory) × (new ≡ old))
@@ -63,14 +65,14 @@ pub record TellsVersion (status : ℕ) (old new : SinkState) : Type 0 where
 
 -- ---- serve
 
--- a call took from a source what the trace got, and all that was left if it ended well
+-- a call took from a source what the trace pulled, and everything that was left if it succeeded
 pub record Gave {X E : Type 0} (t : Trace) (result : Result X E)
     (old new : SourceState) : Type 0 where
   pub got : Consumes old.left new.left t.got
   pub counts : new.counts ≡ t.source
   pub all : OnOk result (IsAtEnd new.left)
 
--- a call put to a sink what the trace put
+-- a call pushed to a sink what the trace pushed
 pub record Took (t : Trace) (old new : SinkState) : Type 0 where
   pub put : Appends old.held new.held t.put
   pub counts : new.counts ≡ t.sink
@@ -90,7 +92,7 @@ pub record GetsReplies {F : Type 0} (file : Option F) (t : Trace)
 -- a stream was served over a stack and its sources, as a session of its own: it came from the input
 -- and its replies went to the output, unless the line names a file instead of one of them
 pub record IsServing {A : Type 0} (line : Line) (by : Sourced) (t : Trace)
-    (result : Result (Done A) Stop) (old new : Devices) : Type 0 where
+    (result : Result (Done A) StreamFault) (old new : Devices) : Type 0 where
   pub session : IsSessionOf line by t result
   pub asks : Asks line.requests t result old.source new.source
   pub gains : GetsReplies line.replies t old.sink new.sink
@@ -119,13 +121,13 @@ pub record IsFileFault (line : Line) (fault : Fault) (old new : Devices) : Type 
       ⊎ ((fault ≡ BalancesFile) × (is_some line.balances ≡ true)))
 
 -- the images are good, and the stream was served over their stack until it stopped; the fault says
--- for what
+-- why
 pub record IsServedInPart (A : Type 0) (line : Line) (images : List (List ℕ)) (fault : Fault)
     (old new : Devices) : Type 0 where
   pub by : Sourced
   pub prepared : ArePrepared line images by
   pub trace : Trace
-  pub stop : Stop
+  pub stop : StreamFault
   pub told : fault ≡ Stopped stop
   pub serving : IsServing {A = A} line by trace (Err stop) old new
 
@@ -136,7 +138,8 @@ pub record AreBalancesLost (A : Type 0) (line : Line) (images : List (List ℕ))
   pub told : (fault ≡ write_failed) ⊎ (fault ≡ out_of_memory)
   pub served : IsServedWhole A line images old new
 
--- serving was not begun, for a file or the images, or not done, or its balances were not written
+-- serving was not begun, for a file or the images, or not finished, or its balances were not
+-- written
 abbrev pub IsNotServed : (A : Type 0) → Line → List (List ℕ) → Fault → Devices → Devices → Type 0
 IsNotServed A line images fault old new =
     IsFileFault line fault old new
@@ -146,7 +149,7 @@ IsNotServed A line images fault old new =
 -- ---- socket
 
 -- the images are good, and sessions were served over their stack to clients of a socket that had
--- none before, which end with this fault, or with none
+-- none before, and end with this fault, or with none
 pub record IsServedAtSocket (A : Type 0) (line : Line) (images : List (List ℕ))
     (fault : Option Fault) : Type 0 where
   pub by : Sourced
@@ -176,8 +179,8 @@ IsNotServedAtSocket A line images fault =
 
 -- ---- all four
 
--- the work of a command over the images that were read, done. Only serve touches the input, and
--- socket neither device
+-- the work of a command over the images that were read is done. Only serve touches the input, and
+-- socket touches neither device
 abbrev pub IsDoneOver : (A : Type 0) → Verb → Line → List (List ℕ) → Devices → Devices → Type 0
 IsDoneOver A verbs.Serve line images old new = IsServedWhole A line images old new
 IsDoneOver A verbs.Socket line images old new =
@@ -239,10 +242,10 @@ pub record IsEarly (words : List (List ℕ)) (fault : Fault) (old new : Devices)
 abbrev pub EndsInFault : (A : Type 0) → List (List ℕ) → Fault → Devices → Devices → Type 0
 EndsInFault A words fault old new = IsEarly words fault old new ⊎ IsDoneInPart A words fault old new
 
--- the fault is one of sessions, which reported it as it occurred
+-- the fault belongs to sessions, which reported it as it occurred
 abbrev pub IsOfSessions : Fault → Type 0
 IsOfSessions fault =
-    (fault ≡ Accept) ⊎ ((n : ℕ) × (stop : Stop) × (fault ≡ InSession n stop))
+    (fault ≡ Accept) ⊎ ((n : ℕ) × (stop : StreamFault) × (fault ≡ InSession n stop))
 
 -- the program did all its steps: what its arguments say, or the faults of its sessions were
 -- reported

@@ -13,18 +13,18 @@ pub data EndStates (A : Type 0) : Type 0 where
   device : MountEnds → EndStates A
   readers : List (SeatState A) → EndStates A
 
--- what is known of what a run was given: what is left in the reader, what the writer holds, and
--- what is left in the reader that several share
+-- what is known about the ends that a run got: what is left in the reader, what the writer holds,
+-- and what is left in the reader that several share
 pub record Given : Type 0 where
   pub left : Option (List ℕ)
   pub held : Option (List ℕ)
   pub shared : Option (List ℕ)
 
--- the same, of its parts
+-- the same, from its parts
 abbrev pub given : Option (List ℕ) → Option (List ℕ) → Option (List ℕ) → Given
 given left held shared = record { left = left; held = held; shared = shared }
 
--- of these ends, by what their readers have left and their writers hold
+-- the states of these ends, by what their readers have left and their writers hold
 abbrev pub end_states : {I O X Y A : Type 0} → (I → Option (List ℕ)) → (O → Option (List ℕ))
     → (X → Option (List ℕ)) → Ends I O X Y A → EndStates A
 end_states remaining contents shared left.Unused = unused

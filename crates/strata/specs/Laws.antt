@@ -6,8 +6,8 @@ use Rattle.romfs_format.specs.Rules.{IsSound}
 use Rattle.reply_model.specs.declared.session.Session.{Session}
 use Rattle.reply_model.specs.Readings.{Sourced}
 use Rattle.romfs_format.specs.declared.rule.ImageFault.{ImageFault}
-use Rattle.serve_core.specs.declared.stop.Stop.{Stop}
-use Rattle.serve_core.specs.declared.stop.Stop.TheVariants.{Layer, Layers, BadLength, CutOff, Read, Write, Turns, Memory}
+use Rattle.serve_loop.specs.declared.stream_fault.StreamFault.{StreamFault}
+use Rattle.serve_loop.specs.declared.stream_fault.StreamFault.TheVariants.{BadLength, CutOff, Read, Write, Turns, Memory}
 use Rattle.serve_loop.specs.declared.done.Done.{Done}
 use Rattle.serve_loop.specs.Serving.{Trace}
 use Rattle.stack_prepare.specs.Layers.{IsFew}
@@ -48,9 +48,9 @@ abbrev pub IsWhole : {A : Type 0} {first : Session} {by : Sourced} → ServedSes
     → Type 0
 IsWhole {A} s = (done : Done A) × (s.result ≡ Ok done)
 
--- of these sessions the first that stopped has this number, counted from 1, and did so for this
+-- of these sessions the first that stopped has this number, counted from 1, and stopped for this
 pub record IsFirstStopped {A : Type 0} {first : Session} {by : Sourced}
-    (served : List (ServedSession A first by)) (number : ℕ) (stop : Stop) : Type 0 where
+    (served : List (ServedSession A first by)) (number : ℕ) (stop : StreamFault) : Type 0 where
   pub before : List (ServedSession A first by)
   pub stopped : ServedSession A first by
   pub after : List (ServedSession A first by)
@@ -59,11 +59,11 @@ pub record IsFirstStopped {A : Type 0} {first : Session} {by : Sourced}
   pub whole : AllByRecursion IsWhole before
   pub result_is : stopped.result ≡ Err stop
 
--- the fault says of the first of these sessions that stopped how it did, by its number
+-- the fault names the first of these sessions that stopped, by its number, and why it did
 abbrev pub IsOfFirstStopped : {A : Type 0} {first : Session} {by : Sourced}
     → List (ServedSession A first by) → Fault → Type 0
 IsOfFirstStopped served fault =
-    (number : ℕ) × (stop : Stop) × (fault ≡ InSession number stop)
+    (number : ℕ) × (stop : StreamFault) × (fault ≡ InSession number stop)
     × IsFirstStopped served number stop
 
 -- what the fault and the status of sessions mean: all were served, and to their end; or all were
@@ -73,7 +73,7 @@ pub record TellsOfSessions (A : Type 0) (first : Session) (by : Sourced)
   pub served : List (ServedSession A first by)
   pub which :
       ((length served ≡ count) × (fault ≡ None) × (status ≡ 0) × AllByRecursion IsWhole served)
-      ⊎ (((length served ≡ count) × (number : ℕ) × (stop : Stop)
+      ⊎ (((length served ≡ count) × (number : ℕ) × (stop : StreamFault)
       × (fault ≡ Some (InSession number stop)) × (status ≡ stop_status stop)
       × IsFirstStopped served number stop)
       ⊎ ((length served < count) × (fault ≡ Some Accept) × (status ≡ 1)))
@@ -86,10 +86,10 @@ pub record HasMetItsEnd (t : Trace) : Type 0 where
 
 -- ---- which faults have which status
 
--- the fault says of serving, or of a session, that it stopped so
-abbrev pub IsStoppedSo : (Stop → Type 0) → Fault → Type 0
+-- the fault says that serving, or a session, stopped for such a reason
+abbrev pub IsStoppedSo : (StreamFault → Type 0) → Fault → Type 0
 IsStoppedSo Is fault =
-    (stop : Stop) × Is stop
+    (stop : StreamFault) × Is stop
     × ((fault ≡ Stopped stop) ⊎ ((session : ℕ) × (fault ≡ InSession session stop)))
 
 -- the arguments are no command, or ask for help
@@ -97,7 +97,7 @@ abbrev pub IsOfWords : Fault → Type 0
 IsOfWords (Usage text) = ⊤
 IsOfWords _ = ⊥
 
--- a file could not be opened, created or read to its end, a socket not bound or no client accepted
+-- a file could not be opened, created or read in full, a socket not bound or no client accepted
 abbrev pub IsOfFiles : Fault → Type 0
 IsOfFiles fault =
     IsOfImages (λ f. (image : ℕ) × (f ≡ faults.Unread image)) fault
@@ -105,7 +105,7 @@ IsOfFiles fault =
     ⊎ ((fault ≡ Bind) ⊎ (fault ≡ Accept)))))
 
 -- a device failed
-abbrev pub IsOfStreams : Stop → Type 0
+abbrev pub IsOfStreams : StreamFault → Type 0
 IsOfStreams stop = (stop ≡ Read) ⊎ (stop ≡ Write)
 
 -- an image is not as sealed or broken, or there are none or too many
@@ -115,27 +115,20 @@ AreAtFault fault =
     ⊎ (((count : ℕ) × (fault ≡ faults.Layers count))
     ⊎ ((image : ℕ) × (fault ≡ faults.Unsealed image)))
 
--- the same, as why serving stopped
-abbrev pub IsOfLayers : Stop → Type 0
-IsOfLayers stop =
-    ((layer : ℕ) × (fault : ImageFault) × (stop ≡ Layer layer fault))
-    ⊎ ((count : ℕ) × (stop ≡ Layers count))
-
 -- the requests are no stream of messages, or do not end
-abbrev pub IsOfRequests : Stop → Type 0
+abbrev pub IsOfRequests : StreamFault → Type 0
 IsOfRequests stop =
     ((at : ℕ) × (len : ℕ) × (stop ≡ BadLength at len))
     ⊎ (((at : ℕ) × (stop ≡ CutOff at)) ⊎ (stop ≡ Turns))
 
--- a fault that has the status 1, 2, 3, 4 or 5 is one of these
+-- a fault with the status 1, 2, 3, 4 or 5 is one of these
 pub record HasStatusOf (fault : Fault) : Type 0 where
   pub files :
       status_of fault ≡ 1
       → IsOfFiles fault
       ⊎ (IsStoppedSo IsOfStreams fault ⊎ IsOfImages (λ f. f ≡ faults.Write) fault)
   pub words : status_of fault ≡ 2 → IsOfWords fault
-  pub images :
-      status_of fault ≡ 3 → IsOfImages AreAtFault fault ⊎ IsStoppedSo IsOfLayers fault
+  pub images : status_of fault ≡ 3 → IsOfImages AreAtFault fault
   pub requests : status_of fault ≡ 4 → IsStoppedSo IsOfRequests fault
   pub memory :
       status_of fault ≡ 5

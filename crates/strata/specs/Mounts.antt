@@ -1,4 +1,4 @@
--- fuse(4): what a command leaves behind that was run over an open /dev/fuse, or over other streams.
+-- fuse(4): what a command leaves behind after a run over an open /dev/fuse, or over other streams.
 use Rattle.std.specs.Prelude.{◌≡◌, ◌≢◌, ◌<◌, ◌≤◌, ◌⊎◌, ◌||◌, ℕ, Bool, true, false, List, Option, None, Result, MatchResult, if◌then◌else◌}
 use Rattle.devices.specs.Counting.{no_pulls, no_pushes}
 use Rattle.devices.specs.States.{Devices, devices, source_state, sink_state}
@@ -7,8 +7,8 @@ use Rattle.strata_words.specs.declared.options.Line.{Line}
 use Rattle.strata_words.specs.declared.options.NoLine.{NoLine}
 use Rattle.strata_words.specs.declared.options.NoLine.TheVariants as none
 use Rattle.strata_words.specs.CommandLine.{IsLineOf, IsNoLine}
-use Rattle.serve_core.specs.declared.stop.Stop.{Stop}
-use Rattle.serve_core.specs.declared.stop.Stop.TheVariants.{Read, Write}
+use Rattle.serve_loop.specs.declared.stream_fault.StreamFault.{StreamFault}
+use Rattle.serve_loop.specs.declared.stream_fault.StreamFault.TheVariants.{Read, Write}
 use Rattle.strata.specs.declared.faults.Fault.{Fault}
 use Rattle.strata.specs.declared.faults.Fault.TheVariants.{Stopped}
 use Rattle.strata.specs.Faults.{status_of, line_told_of, out_of_memory}
@@ -48,11 +48,11 @@ pub record IsRunOnDevice (A : Type 0) (words : List (List ℕ)) (status : ℕ)
 
 -- an unmount: a read or a write failed, and nothing else went wrong
 pub record IsTakenAway (A : Type 0) (words : List (List ℕ)) (old new : Devices) : Type 0 where
-  pub stop : Stop
+  pub stop : StreamFault
   pub stream : (stop ≡ Read) ⊎ (stop ≡ Write)
   pub ended : EndsInFault A words (Stopped stop) old new
 
--- ---- which devices a line says
+-- ---- which devices a line names
 
 -- a source of what a reader has left and a sink of what a writer holds, neither used so far
 abbrev pub new_devices : Option (List ℕ) → Option (List ℕ) → Devices

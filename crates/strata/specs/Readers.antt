@@ -1,4 +1,4 @@
--- fuse(4): what a command leaves behind that was run over an open /dev/fuse by several readers.
+-- fuse(4): what a command leaves behind after a run over an open /dev/fuse by several readers.
 use Rattle.std.specs.Prelude.{◌≡◌, ◌⊎◌, ℕ, List, Option, replicate}
 use Rattle.strata_words.specs.declared.options.Line.{Line}
 use Rattle.devices.specs.declared.limits.TheConstants.{MAX_TURNS}

@@ -2,16 +2,14 @@
 use Rattle.std.specs.Prelude.{ℕ, ℤ, List, ◌++◌, codes, string_bytes}
 use Rattle.std.specs.Fmt.{decimal, signed_decimal}
 use Rattle.strata_words.specs.declared.version.TheConstants.{LOGIC, VERSION}
-use Rattle.strata_images.specs.Texts.{broken_text, numbered_lines, fault_text as images_text}
-use Rattle.serve_core.specs.declared.stop.Stop.{Stop}
-use Rattle.serve_core.specs.declared.stop.Stop.TheVariants.{Layer, Layers, BadLength, CutOff, Read, Write, Turns, Memory}
+use Rattle.strata_images.specs.Texts.{numbered_lines, fault_text as images_text}
+use Rattle.serve_loop.specs.declared.stream_fault.StreamFault.{StreamFault}
+use Rattle.serve_loop.specs.declared.stream_fault.StreamFault.TheVariants.{BadLength, CutOff, Read, Write, Turns, Memory}
 use Rattle.strata.specs.declared.faults.Fault.{Fault}
 use Rattle.strata.specs.declared.faults.Fault.TheVariants.{Usage, RequestsFile, RepliesFile, BalancesFile, Bind, Accept, Images, InSession, Stopped}
 
--- the line that says why serving stopped, without its end
-abbrev pub stop_text : Stop → List ℕ
-stop_text (Layer layer fault) = broken_text layer fault
-stop_text (Layers count) = codes "layers: " ++ (decimal count ++ codes ", allowed 1 to 128")
+-- the line that says why a stream stopped, without its end
+abbrev pub stop_text : StreamFault → List ℕ
 stop_text (BadLength at len) =
     codes "request at " ++ (decimal at ++ (codes ": bad length " ++ decimal len))
 stop_text (CutOff at) = codes "request at " ++ (decimal at ++ codes ": cut off")
@@ -38,10 +36,10 @@ abbrev pub version_line : List ℕ
 version_line =
     codes "strata " ++ (VERSION.now ++ (codes " (logic " ++ (LOGIC.now ++ codes ")\n")))
 
--- the line of a node's balance: its number, and how many lookups it was given and did not lose
+-- the line of a node's balance: its number, and how many lookups it was given minus those taken
 abbrev pub balance_line : ℕ → ℤ → List ℕ
 balance_line node balance = decimal node ++ (codes " " ++ (signed_decimal balance ++ codes "\n"))
 
--- the lines of balances, of nodes numbered from this one on
+-- the lines of balances, for nodes numbered from this one on
 abbrev pub balance_lines : ℕ → List ℤ → List ℕ
 balance_lines = numbered_lines balance_line

@@ -20,12 +20,12 @@ use strata_images::{open_all, prepare};
 use strata_words::Line;
 
 /// Serves an open `/dev/fuse` over the images of a line with as many readers as it says, all of
-/// which use this reader and this writer, and returns the exit status, with the seats of the
-/// readers as they left them; none if a fault came before.
+/// which use this reader and this writer. Returns the exit status and the final seats of the
+/// readers; none if a fault occurred before.
 ///
-/// The status is 0 if each of them reached its stream's end or found the file system unmounted.
-/// Otherwise it is that of the first of their faults in the table of faults, whose line goes to
-/// `faults` once all have ended.
+/// The status is 0 if each reader reached its stream's end or found the file system unmounted.
+/// Otherwise it is that of the first of their faults in the table of faults, whose line is written
+/// to `faults` after all have ended.
 pub fn mount_by_readers<
     R: Files + Threads + Sync,
     A: Allocator + Copy + Send + Sync,
@@ -54,7 +54,7 @@ where
     }
 }
 
-// Opens, checks and stacks the images, serves their table by the line's readers, and gives their
+// Opens, checks and stacks the images, serves their table by the line's readers, and returns their
 // seats.
 fn serve_shared<
     R: Files + Threads + Sync,
@@ -80,7 +80,7 @@ where
         first: first_of(line),
         plan: plan_of(line),
         turns: MAX_TURNS,
-        // no line asks for balances of a device
+        // no line names a file of balances beside a device
         counted: Counted::NoNodes,
         gate: &FreePass,
     };
@@ -89,7 +89,7 @@ where
     Ok(seats)
 }
 
-// The exit status of an end; a fault has its line.
+// The exit status of an end; the line of a fault is written.
 fn tell_end<E: Write>(end: End, faults: &mut E) -> u8
     ensures { result ≡ status_of_end end }
 {

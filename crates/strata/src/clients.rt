@@ -17,7 +17,7 @@ use crate::faults::Fault;
 use devices::{Clients, Contents, Listening, Sink, Source, Spout, Tap};
 use node_reader::Table;
 use serve_core::{
-    Counted, Done, FreePass, MAX_TURNS, Plan, Served, Session, Stop, Terms, run_from,
+    Counted, Done, FreePass, MAX_TURNS, Plan, Served, Session, StreamFault, Terms, run_from,
 };
 use std::alloc::Allocator;
 use std::io::Write;
@@ -29,9 +29,9 @@ use std::thread::Threads;
 /// pulls.
 ///
 /// If a session stops before its stream's end, its fault is a line of `faults`, with its number,
-/// from 1 on, and the next one follows. The status is that of the first such fault, or 0. If no
-/// client can be accepted, a line reports it, no more sessions follow, and the status is 1. It
-/// waits for a client as long as none connects.
+/// counted from 1, and the next session follows. The status is that of the first such fault, or 0.
+/// If no client can be accepted, a line reports it, no more sessions follow, and the status is 1.
+/// It waits for a client as long as none connects.
 pub fn sessions<R: Threads + Sync, A: Allocator + Copy + Send + Sync, E: Write>(
     rt: &R,
     alloc: A,
@@ -58,9 +58,9 @@ pub fn sessions<R: Threads + Sync, A: Allocator + Copy + Send + Sync, E: Write>(
     )
 }
 
-/// The same of any clients, over a table and its files, in streams that begin in the session
-/// `first`, as [`serve_core::run_from`] serves them; no lookups are counted. A session is one
-/// client, and none but these is accepted.
+/// The same for any clients, over a table and its files, in streams that begin in the session
+/// `first`, as [`serve_core::run_from`] serves them; no lookups are counted. A session has one
+/// client, and no others are accepted.
 pub fn sessions_from<
     R: Threads + Sync,
     A: Allocator + Copy + Send + Sync,
@@ -95,7 +95,7 @@ pub fn sessions_from<
     status
 }
 
-// Serves the session with this number to a client, closes the connection, and gives the status.
+// Serves the session with this number to a client, closes the connection, and returns the status.
 fn serve_session<
     R: Threads + Sync,
     A: Allocator + Copy + Send + Sync,
@@ -120,10 +120,10 @@ fn serve_session<
     end_session(session, &ended, faults)
 }
 
-// Tells why the session with this number stopped, if it did, and gives its status.
+// Prints why the session with this number stopped, if it did, and returns its status.
 fn end_session<A: Allocator, E: Write>(
     session: u32,
-    ended: &Result<Done<A>, Stop>,
+    ended: &Result<Done<A>, StreamFault>,
     faults: &mut E,
 ) -> u8
     ensures { result ≡ status_at (fault_of session ended.now) }
@@ -153,7 +153,7 @@ fn serve_client<
     source: &mut S,
     sink: &mut K,
     plan: Plan,
-) -> Result<Done<A>, Stop>
+) -> Result<Done<A>, StreamFault>
     requires { AreNew (devices (S.state source.old) (K.state sink.old)) }
     ensures { Does (λ t. IsSession first (sourced_by D.source served.entry) 0 t result)
         (devices (S.state source.old) (K.state sink.old))
@@ -163,7 +163,7 @@ fn serve_client<
         first,
         plan,
         turns: MAX_TURNS,
-        // nobody asks for the balances of a session
+        // no line names a file of balances for a session
         counted: Counted::NoNodes,
         gate: &FreePass,
     };

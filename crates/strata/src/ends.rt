@@ -8,9 +8,9 @@ use std::alloc::Allocator;
 /// and the writer `O`, or over those that several readers share, `X` and `Y`.
 #[derive(Drop)]
 pub enum Ends<I, O, X, Y, A: Allocator> {
-    /// There were none: the arguments have a fault, or a fault came before they were made.
+    /// None: the arguments have a fault, or a fault occurred before they were made.
     Unused,
-    /// Streams that are no device.
+    /// Streams that are not a device.
     Streams(Tap<I>, Spout<O>),
     /// An open `/dev/fuse`, served by one reader.
     Device(MessageTap<I, A>, ReplySpout<O>),

@@ -1,4 +1,4 @@
-//! What can go wrong in the program: a line for standard error and an exit status each.
+//! Faults of the program, each with a line for standard error and an exit status.
 
 ghost use Rattle.std.specs.Prelude.{◌≡◌, ◌++◌, ◌∷◌, [], OnOk, IfSome};
 ghost use Rattle.std.specs.Io.KnownBytes.{Appends};
@@ -8,7 +8,7 @@ ghost use Rattle.strata.specs.Texts.{fault_text, stop_text};
 
 use arrayvec::ArrayString;
 use devices::Failed;
-use serve_core::Stop;
+use serve_core::StreamFault;
 use std::alloc::{AllocError, AllocFailed};
 use std::fmt::Write as _;
 use std::io::Write;
@@ -34,17 +34,17 @@ pub enum Fault {
     Bind,
     /// No client can be accepted at the socket.
     Accept,
-    /// The images are not used, or what is said of them is not printed.
+    /// The images are not used, or what should be printed about them is not.
     Images(ImagesFault),
     /// This session at a socket, counted from 1, was not served to its end.
-    InSession { session: u32, stop: Stop },
+    InSession { session: u32, stop: StreamFault },
     /// A stream was not served to its end, a write of the program's own lines failed, or memory ran
     /// out.
-    Stopped(Stop),
+    Stopped(StreamFault),
 }
 
 impl Fault {
-    /// The exit status that it ends the program with.
+    /// The exit status of the program for it.
     pub fn status(&self) -> u8
         ensures { result ≡ status_of self.now }
     {
@@ -58,9 +58,9 @@ impl Fault {
         }
     }
 
-    /// Writes its line, and flushes. A line goes out in one write, so no other program's text gets
-    /// inside it; longer text of the command line in two. An error is the writer's, which then has
-    /// at most a beginning of the line.
+    /// Writes its line, and flushes. A line is written in one write, so no other program's text
+    /// gets inside it; longer text of the command line in two. An error is the writer's, which then
+    /// has at most a prefix of the line.
     pub fn tell<W: Write>(&self, writer: &mut W) -> io::Result<()>
         ensures whole { OnOk result (Appends (W.contents writer.old) (W.contents writer.new)
             (fault_text self.now ++ 10 ∷ [])) }
@@ -71,7 +71,7 @@ impl Fault {
         writer.flush()
     }
 
-    /// Writes its line, or as much of it as the writer takes, and gives the exit status.
+    /// Writes its line, or as much of it as the writer takes, and returns the exit status.
     pub fn end<W: Write>(&self, writer: &mut W) -> u8
         ensures status { result ≡ status_of self.now }
         ensures told { GainsFront (fault_text self.now ++ 10 ∷ [])
@@ -119,15 +119,14 @@ fn write_long<W: Write>(writer: &mut W, text: &[u8]) -> io::Result<()>
     write_bytes(writer, b"\n")
 }
 
-// The exit status when serving stopped.
-fn stop_status(stop: Stop) -> u8
+// The exit status when a stream stopped.
+fn stop_status(stop: StreamFault) -> u8
     ensures { result ≡ stop_status stop }
 {
     match stop {
-        Stop::Read | Stop::Write => 1,
-        Stop::Layers { .. } | Stop::Layer { .. } => 3,
-        Stop::BadLength { .. } | Stop::CutOff { .. } | Stop::Turns => 4,
-        Stop::Memory => 5,
+        StreamFault::Read | StreamFault::Write => 1,
+        StreamFault::BadLength { .. } | StreamFault::CutOff { .. } | StreamFault::Turns => 4,
+        StreamFault::Memory => 5,
     }
 }
 
@@ -157,10 +156,10 @@ impl fmt::Display for Fault {
     }
 }
 
-// Why serving stopped. Its `Display` is the line of it.
+// Why a stream stopped. Its `Display` is the line for it.
 #[derive(Drop)]
 struct Why {
-    stop: Stop,
+    stop: StreamFault,
 }
 
 impl fmt::Display for Why {
@@ -170,16 +169,12 @@ impl fmt::Display for Why {
 
     fn fmt<W: fmt::Write>(&self, f: &mut fmt::Formatter<W>) -> fmt::Result {
         match self.stop {
-            Stop::Layer { layer, fault } => {
-                write!(f, "layer {layer} at {:08x}: {}", fault.place, fault.rule)
-            }
-            Stop::Layers { count } => write!(f, "layers: {count}, allowed 1 to 128"),
-            Stop::BadLength { at, len } => write!(f, "request at {at}: bad length {len}"),
-            Stop::CutOff { at } => write!(f, "request at {at}: cut off"),
-            Stop::Read => write!(f, "read fault"),
-            Stop::Write => write!(f, "write fault"),
-            Stop::Turns => write!(f, "turns used up"),
-            Stop::Memory => write!(f, "out of memory"),
+            StreamFault::BadLength { at, len } => write!(f, "request at {at}: bad length {len}"),
+            StreamFault::CutOff { at } => write!(f, "request at {at}: cut off"),
+            StreamFault::Read => write!(f, "read fault"),
+            StreamFault::Write => write!(f, "write fault"),
+            StreamFault::Turns => write!(f, "turns used up"),
+            StreamFault::Memory => write!(f, "out of memory"),
         }
     }
 }
@@ -192,7 +187,7 @@ impl From<LineFault> for Fault {
     fn from(fault: LineFault) -> Fault {
         match fault {
             LineFault::Usage { text } => Fault::Usage { text },
-            LineFault::Memory => Fault::Stopped(Stop::Memory),
+            LineFault::Memory => Fault::Stopped(StreamFault::Memory),
         }
     }
 }
@@ -207,12 +202,12 @@ impl From<ImagesFault> for Fault {
     }
 }
 
-impl From<Stop> for Fault {
+impl From<StreamFault> for Fault {
     ghost use Rattle.strata.specs.declared.faults.Fault.TheVariants.{Stopped};
 
     ghost from_gives = { λ stop fault. fault ≡ Stopped stop };
 
-    fn from(stop: Stop) -> Fault {
+    fn from(stop: StreamFault) -> Fault {
         Fault::Stopped(stop)
     }
 }
@@ -223,7 +218,7 @@ impl From<Failed> for Fault {
     ghost from_gives = { λ _ fault. fault ≡ write_failed };
 
     fn from(_failed: Failed) -> Fault {
-        Fault::Stopped(Stop::Write)
+        Fault::Stopped(StreamFault::Write)
     }
 }
 
@@ -233,7 +228,7 @@ impl From<AllocError> for Fault {
     ghost from_gives = { λ _ fault. fault ≡ out_of_memory };
 
     fn from(_error: AllocError) -> Fault {
-        Fault::Stopped(Stop::Memory)
+        Fault::Stopped(StreamFault::Memory)
     }
 }
 
@@ -243,6 +238,6 @@ impl<T: Drop> From<AllocFailed<T>> for Fault {
     ghost from_gives = { λ _ fault. fault ≡ out_of_memory };
 
     fn from(_error: AllocFailed<T>) -> Fault {
-        Fault::Stopped(Stop::Memory)
+        Fault::Stopped(StreamFault::Memory)
     }
 }

@@ -1,4 +1,4 @@
-//! The files of a stream: those of requests, of replies and of balances, that a command line names.
+//! The files of a stream that a command line names: for requests, for replies and for balances.
 
 ghost use Rattle.std.specs.Prelude.{◌≡◌, is_some, true, IfOk, IfErr};
 

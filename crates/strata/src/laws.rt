@@ -6,7 +6,7 @@ ghost use Rattle.strata_words.specs.CommandLine.{IsRefused, IsMisnumbered, IsMis
 ghost use Rattle.strata_words.specs.declared.options.Line.{Line};
 ghost use Rattle.strata_words.specs.declared.options.Verb.TheVariants as verbs;
 ghost use Rattle.devices.specs.States.{Devices};
-ghost use Rattle.serve_core.specs.declared.stop.Stop.TheVariants.{Read, Write};
+ghost use Rattle.serve_loop.specs.declared.stream_fault.StreamFault.TheVariants.{Read, Write};
 ghost use Rattle.strata.specs.Ending.{EndsWith, IsServedWhole, IsFileFault, IsDoneOver, first_of};
 ghost use Rattle.reply_model.specs.declared.session.Session.{Session};
 ghost use Rattle.reply_model.specs.declared.session.Session.TheVariants.{Fresh, LastingFresh};
@@ -22,7 +22,7 @@ ghost use Rattle.serve_loop.specs.Serving.{Trace};
 ghost use Rattle.serve_device.specs.MountEnds.{MountEnds};
 ghost use Rattle.strata_images.specs.Images.{ArePrepared, profile_of};
 ghost use Rattle.strata.specs.Readers.{status_of_end};
-ghost use Rattle.serve_core.specs.declared.stop.Stop.{Stop};
+ghost use Rattle.serve_loop.specs.declared.stream_fault.StreamFault.{StreamFault};
 ghost use Rattle.serve_device.specs.Ends.{end_of_stop};
 ghost use Rattle.strata.specs.Sessions.{first_fault, status_at, Accepting, AreServed, EndWith, IsSession, ServedSession};
 ghost use Rattle.strata.specs.declared.faults.Fault.{Fault};
@@ -36,8 +36,7 @@ use std::os::unix::fs::FileExt;
 /// A status other than 0 is one of 1 to 5. With 2 the arguments are no command of the program, or
 /// have a malformed number or digest, a number out of range, or not a digest for each image, or
 /// name a file beside the device, and no device was touched. With 3 the images are none or more
-/// than 128, or one is broken, or one that has a digest is not as sealed, which is the fault of the
-/// run.
+/// than 128, or one is broken, or one with a digest is not as sealed; that is the fault of the run.
 pub fn statuses_tell<A: Allocator>()
     ensures range { (words : List (List ℕ)) (n : ℕ) (old new : Devices) →
         EndsWith A words n old new → (1 ≤ n) × (n ≤ 5) }
@@ -49,17 +48,17 @@ pub fn statuses_tell<A: Allocator>()
         AreToBlame words ⊎ (AreUnsealed words e.fault × (new ≡ old)) }
 {}
 
-/// The status of a fault says what is to blame: 1 files, sockets and streams; 2 the arguments; 3
-/// the images; 4 the requests, also if they do not end; 5 memory.
+/// The status of a fault says what is wrong: 1 files, sockets and streams; 2 the arguments; 3 the
+/// images; 4 the requests, also if they do not end; 5 memory.
 #[tactic(auto, using(crate::proofs::Blames::each_status))]
 pub fn each_status_has_its_faults()
     ensures { (fault : Fault) → HasStatusOf fault }
 {}
 
-/// Sessions end with no fault and 0 if all of them were served to their end; else with the fault of
-/// the first that stopped, with its number, and with its status; or with 1 after fewer sessions
-/// than requested, since no client could be accepted. For any sessions in a row the fault is that
-/// of the first of these that stopped, and there is none if none did.
+/// Sessions end without a fault and with 0 if all of them were served to their end; otherwise with
+/// the fault of the first that stopped, with its number, and with its status; or with 1 after fewer
+/// sessions than requested, since no client could be accepted. For any sessions in a row the fault
+/// is that of the first of these that stopped, and there is none if none did.
 pub fn sessions_tell<A: Allocator>()
     ensures faults { (first : Session) (by : Sourced) (count : ℕ) (fault : Option Fault)
         (clients : Accepting) → AreServed A first by count fault clients →
@@ -73,8 +72,8 @@ pub fn sessions_tell<A: Allocator>()
         first_fault 1 served ≡ None → AllByRecursion IsWhole served }
 {}
 
-/// A session counts by itself: one that was served to its end met that once, and nothing failed;
-/// one that a failed read or write stopped has that one failure.
+/// Each session counts alone: if it was served to its end, it met that once, and nothing failed; if
+/// a failed read or write stopped it, it has that one failure.
 pub fn sessions_begin_anew<A: Allocator>()
     ensures whole { (first : Session) (by : Sourced) (counted : ℕ) (t : Trace) (done : Done A) →
         IsSession first by counted t (Ok done) → HasMetItsEnd t }
@@ -94,7 +93,8 @@ pub fn statuses_tell_of_mounts<A: Allocator>()
         (n ≡ 0) × IsTakenAway A words old.devices new.devices }
 {}
 
-/// Over a device, and with `--lasting`, the client learns that the tree lasts; otherwise not.
+/// Over a device, and with `--lasting`, the client learns that the tree never changes; otherwise
+/// not.
 pub fn devices_are_served_lastingly()
     ensures device { (line : Line) → line.device ≡ true → first_of line ≡ LastingFresh }
     ensures lasting { (line : Line) → line.lasting ≡ true → first_of line ≡ LastingFresh }
@@ -105,7 +105,7 @@ pub fn devices_are_served_lastingly()
 /// If this was gathered from images for a line, and its data are read from sources that hold
 /// exactly these images, they are good, and a request may only get the reply that is defined over
 /// them. This was gathered so from whatever images the sources of the line show; and these are
-/// good, and served as they are, or with EIO where data may be lacking.
+/// good, and served as they are, or with EIO where data may be missing.
 pub fn lines_are_served_as_over_their_files()
     ensures good { (line : Line) (kept images : List (List ℕ)) (by : Sourced) →
         ArePrepared line kept by → WereGatheredFor (profile_of line) images kept →
@@ -123,7 +123,7 @@ pub fn lines_are_served_as_over_their_files()
         AreServedAs (profile_of line) line.owner by images }
 {}
 
-/// Whatever is read from the files later: a request that is no READ gets the reply that is defined
+/// Whatever is read from the files later, a request other than READ gets the reply that is defined
 /// over the images from which this was gathered.
 pub fn lines_keep_what_they_show()
     ensures { (line : Line) (kept images : List (List ℕ)) (by : Sourced) →
@@ -133,15 +133,16 @@ pub fn lines_keep_what_they_show()
         ((offset size : ℕ) → q.op ≢ at_node (read offset size)) → bytes ≡ reply whole s q }
 {}
 
-/// A reader of several ends with the status with which one alone would.
+/// One of several readers ends with the same status as a reader alone.
 #[tactic(auto, using(crate::proofs::Rules::ends_alike))]
 pub fn readers_end_as_one_does()
-    ensures { (stop : Stop) (input output : Bool) →
+    ensures { (stop : StreamFault) (input output : Bool) →
         status_of_end (end_of_stop stop input output)
         ≡ status_on_device (Stopped stop) input output }
 {}
 
-/// A failed write means an unmount if either side knows, and a failed read if its own side does.
+/// A failed write means an unmount if either side knows of it, and a failed read if its own side
+/// does.
 pub fn writes_know_by_either_side()
     ensures write { (input : Bool) → is_taken_away (Stopped Write) input true ≡ true }
     ensures written { is_taken_away (Stopped Write) true false ≡ true }
@@ -150,8 +151,8 @@ pub fn writes_know_by_either_side()
     ensures there { is_taken_away (Stopped Write) false false ≡ false }
 {}
 
-/// A file of requests or of replies takes the place of a stream, which is left alone; a file that
-/// cannot be opened leaves both alone; and `check` and `list` leave the input alone.
+/// A file of requests or of replies replaces a stream, which stays untouched; a file that cannot be
+/// opened leaves both streams untouched; and `check` and `list` leave the input untouched.
 pub fn named_files_leave_the_streams<A: Allocator>()
     ensures requests { (line : Line) (images : List (List ℕ)) (old new : Devices) →
         IsServedWhole A line images old new → is_some line.requests ≡ true →

@@ -1,17 +1,17 @@
 //! The program `strata`: FUSE requests answered over a stack of romfs images.
 //!
-//! [`command`] is the whole program over its command line and its three standard streams: it reads
+//! [`command`] is the entire program over its command line and its three standard streams: it reads
 //! the line once, runs it by [`command_on_device`] if it says that the streams are an open
 //! `/dev/fuse`, otherwise by [`command_on_streams`], and returns the [`Ends`] that it ran between.
 //! [`sessions`] serves the clients of a Unix socket that is already bound, one after another, and
-//! [`sessions_from`] those of anything that gives clients. [`faults`] has a line and an exit status
-//! for each thing that can go wrong.
+//! [`sessions_from`] those of any source of clients. [`faults`] has a line and an exit status for
+//! everything that can go wrong.
 //!
-//! `strata_words` reads the arguments, and `strata_images` has all that concerns images: their
-//! files, their table, and the commands `check` and `list`. Here are the files of a stream, the
-//! commands that serve (`serving`, `listening`), and the program. `serve_core` serves a stream over
-//! a table and its files, and says what is answered about data in a file; `serve_device` detects an
-//! unmount, and serves a device with several readers (`by_readers`).
+//! `strata_words` reads the arguments, and `strata_images` does everything with images: their
+//! files, their table, and the commands `check` and `list`. This crate has the files of a stream,
+//! the commands that serve (`serving`, `listening`), and the program. `serve_core` serves a stream
+//! over a table and its files, and defines the answers about data in a file; `serve_device` detects
+//! an unmount, and serves a device with several readers (`by_readers`).
 #![tactic(auto)]
 
 mod balances;

@@ -23,7 +23,7 @@ use strata_images::{LineImages, prepare};
 use strata_words::Line;
 
 /// Checks and stacks the images, binds a socket at the line's path, serves its sessions over the
-/// stack and returns their status; at last the socket's file is removed. Faults of sessions are
+/// stack and returns their status. Finally it removes the socket's file. Faults of sessions are
 /// reported as they occur.
 pub fn listen<R: Files + Net + Threads + Sync, A: Allocator + Copy + Send + Sync, E: Write>(
     rt: &R,
@@ -52,8 +52,8 @@ where
     listen_at(rt, alloc, line, served, path, faults)
 }
 
-// Binds a socket at a path, serves its sessions, and gives their status; at last the socket's file
-// is removed.
+// Binds a socket at a path, serves its sessions, and returns their status. Finally it removes the
+// socket's file.
 fn listen_at<
     R: Files + Net + Threads + Sync,
     A: Allocator + Copy + Send + Sync,
@@ -91,7 +91,7 @@ fn listen_at<
     Ok(status)
 }
 
-// A socket that listens at this path, where no file existed. An empty path would make a socket that
+// A socket that listens at this path, where no file exists. An empty path would make a socket that
 // no client finds.
 fn bind<R: Files + Net>(rt: &R, path: &str) -> Result<UnixListener, Fault>
     ensures { IfErr result (λ fault. fault ≡ Fault.Bind) }

@@ -2,7 +2,7 @@
 //!
 //! A command does its steps in this order, and the first that fails ends it: it reads its line, the
 //! files of the images, opens the file of requests, creates the files of replies and of balances,
-//! and then does its work. `socket` makes its socket once the images are stacked.
+//! and then does its work. `socket` makes its socket after the images are stacked.
 //!
 //! Its functions repeat the same bounds: no trait can replace those on `R::File` and `R::Dir`.
 
@@ -21,7 +21,7 @@ use crate::listening::listen;
 use crate::serving::serve;
 use crate::version::tell_version;
 use devices::{Sink, Source, Spout, Tap};
-use serve_core::Stop;
+use serve_core::StreamFault;
 use serve_device::{MessageTap, ReplySpout};
 use std::alloc::{Allocator, Global};
 use std::convert::AsStr;
@@ -34,15 +34,15 @@ use strata_images::{ImagesFault, check, gather_all, list, open_all};
 use strata_words::{Line, NoLine, Verb, line};
 
 /// Runs the program on the arguments after its name, over a reader and a writer that were not used
-/// before, and returns its exit status, with the ends that it ran between as it left them. The
-/// reader and the writer are the two ends of an open `/dev/fuse` if the line has `--device`, and
-/// not otherwise; then `shared` are both ends once more, for several readers if the line asks for
-/// them. A fault of the arguments, or memory refused while they are read, ends it before either is
-/// touched. A request for the version prints its line.
+/// before, and returns its exit status, with the ends that it ran between. The reader and the
+/// writer are the two ends of an open `/dev/fuse` if the line has `--device`, and not otherwise;
+/// then `shared` are both ends once more, for several readers if the line has them. A fault of the
+/// arguments, or memory refused while they are read, ends it before either is touched. A request
+/// for the version prints its line.
 ///
-/// What it then does is said of [`command_on_device`] and [`command_on_streams`], and of several
-/// readers in `serve_device`. Memory comes from `alloc`, but for the command line: `clap` takes
-/// the global allocator alone.
+/// [`command_on_device`] and [`command_on_streams`] say what it then does, and `serve_device` what
+/// several readers do. Memory is from `alloc`, except for the command line: `clap` takes only the
+/// global allocator.
 pub fn command<
     R: Files + Net + Threads + Sync,
     A: Allocator + Copy + Send + Sync,
@@ -86,7 +86,7 @@ where
     }
 }
 
-// Runs the program by its line, over the devices that this says.
+// Runs the program by its line, over the devices that the line names.
 fn command_of_line<
     R: Files + Net + Threads + Sync,
     A: Allocator + Copy + Send + Sync,
@@ -165,16 +165,16 @@ where
     }
 }
 
-/// Runs the program by a line that does not say `--device`, over a source and a sink.
+/// Runs the program by a line without `--device`, over a source and a sink.
 ///
-/// The status is 0 only if the work of the line was done: the whole stream was answered over the
+/// The status is 0 only if the work of the line was done: the entire stream was answered over the
 /// images, and `output` gained all replies, unless a file is named for them; or all sessions at a
 /// socket were served to their end; or `output` gained the sizes of all images, or their visible
-/// paths. Otherwise the status is that of a [`Fault`], whose line goes to `faults`; `output` then
-/// holds the replies so far, or a beginning of the lines if it failed on these, or is unchanged.
+/// paths. Otherwise the status is that of a [`Fault`], whose line is written to `faults`; `output`
+/// then has the replies so far, or a prefix of the lines if it failed on these, or is unchanged.
 /// `input` is read only by `serve`, if no file of requests is named.
 ///
-/// It asks that neither `input` nor `output` was used before.
+/// It requires that neither `input` nor `output` was used before.
 pub fn command_on_streams<
     R: Files + Net + Threads + Sync,
     A: Allocator + Copy + Send + Sync,
@@ -199,12 +199,12 @@ where
     }
 }
 
-/// Runs the program as [`command_on_streams`] does, by a line that says `--device`, over the two
-/// devices of an open `/dev/fuse`.
+/// Runs the program as [`command_on_streams`] does, by a line with `--device`, over the two devices
+/// of an open `/dev/fuse`.
 ///
 /// The status is 0 also after an unmount: a pull failed, and `input` says that it is gone; or a
-/// push failed, and one of both says so. No line is written then, and `output` took a beginning of
-/// the replies. Any other fault has its line and its status.
+/// push failed, and one of both says so. No line is written then, and `output` took a prefix of the
+/// replies. Any other fault has its line and its status.
 pub fn command_on_device<
     R: Files + Net + Threads + Sync,
     A: Allocator + Copy + Send + Sync,
@@ -236,7 +236,7 @@ where
     }
 }
 
-// Does all the steps after the line was read, and returns the exit status. Sessions at a socket may
+// Does all the steps after reading the line, and returns the exit status. Sessions at a socket may
 // make it nonzero: their faults are reported as they occur.
 fn do_steps<
     R: Files + Net + Threads + Sync,
@@ -287,7 +287,7 @@ where
     }
 }
 
-// The status of work that is done, if it was.
+// The status of finished work, or its fault.
 fn as_status(done: Result<(), Fault>) -> Result<u8, Fault>
     ensures { MatchResult done (λ _. result ≡ Ok 0) (λ fault. result ≡ Err fault) }
 {
@@ -297,7 +297,7 @@ fn as_status(done: Result<(), Fault>) -> Result<u8, Fault>
     }
 }
 
-// The same of work on images.
+// The same for work on images.
 fn as_told(done: Result<(), ImagesFault>) -> Result<u8, Fault>
     ensures { MatchResult done (λ _. result ≡ Ok 0) (λ fault. result ≡ Err (Fault.Images fault)) }
 {
@@ -312,8 +312,8 @@ fn end_on_device<E: Write>(fault: &Fault, input: bool, output: bool, faults: &mu
     ensures { result ≡ status_on_device fault.now input output }
 {
     let taken_away = match fault {
-        Fault::Stopped(Stop::Read) => input,
-        Fault::Stopped(Stop::Write) => input || output,
+        Fault::Stopped(StreamFault::Read) => input,
+        Fault::Stopped(StreamFault::Write) => input || output,
         _ => false,
     };
     if taken_away { 0 } else { fault.end(faults) }

@@ -14,7 +14,7 @@ use crate::faults::Fault;
 use crate::files::{create_named, open_requests};
 use crate::settings::{counted_of, first_of, plan_of};
 use devices::{Contents, Sink, Source, Spout, Tap};
-use serve_core::{Done, FreePass, MAX_TURNS, Served, Stop, Terms, run_from};
+use serve_core::{Done, FreePass, MAX_TURNS, Served, StreamFault, Terms, run_from};
 use std::alloc::Allocator;
 use std::fs::Files;
 use std::io::{Read, Write};
@@ -23,10 +23,10 @@ use std::thread::Threads;
 use strata_images::{LineImages, prepare};
 use strata_words::Line;
 
-/// Checks the images, stacks them, and answers the requests from a file, or else the input, over
-/// the stack, to a file, or else the output, as they come. If an image is broken neither the input
-/// nor the output is touched. At the end of the stream it writes the balances, if a file is named
-/// for them.
+/// Checks the images, stacks them, and answers the requests from a file, or otherwise the input,
+/// over the stack, to a file, or otherwise the output, as they arrive. If an image is broken
+/// neither the input nor the output is touched. At the end of the stream it writes the balances, if
+/// a file is named for them.
 pub fn serve<R: Files + Threads + Sync, A: Allocator + Copy + Send + Sync, S: Source, K: Sink>(
     rt: &R,
     alloc: A,
@@ -121,7 +121,8 @@ fn serve_streams<
     tell_balances(alloc, balances, done.balances.as_slice())
 }
 
-// Answers the requests of the file or else of the input, to the file or else to the output.
+// Answers the requests of the file or otherwise of the input, to the file or otherwise to the
+// output.
 fn serve_stream<
     R: Threads + Sync,
     A: Allocator + Copy + Send + Sync,
@@ -138,7 +139,7 @@ fn serve_stream<
     replies: Option<F>,
     input: &mut S,
     output: &mut K,
-) -> Result<Done<A>, Stop>
+) -> Result<Done<A>, StreamFault>
     requires limits { IsInLimits line.now }
     requires requests { is_some requests ≡ is_some line.now.requests }
     requires replies { is_some replies ≡ is_some line.now.replies }
@@ -161,7 +162,7 @@ fn serve_stream<
     }
 }
 
-// Answers the requests of the source, to the file or else to the output.
+// Answers the requests of the source, to the file or otherwise to the output.
 fn serve_source<
     R: Threads + Sync,
     A: Allocator + Copy + Send + Sync,
@@ -177,7 +178,7 @@ fn serve_source<
     source: &mut S,
     replies: Option<F>,
     output: &mut K,
-) -> Result<Done<A>, Stop>
+) -> Result<Done<A>, StreamFault>
     requires limits { IsInLimits line.now }
     requires new { AreNew (devices (S.state source.old) (K.state output.old)) }
     ensures { (t : Trace)
@@ -205,7 +206,7 @@ fn serve_between<
     served: Served<'_, A, D>,
     source: &mut S,
     sink: &mut K,
-) -> Result<Done<A>, Stop>
+) -> Result<Done<A>, StreamFault>
     requires limits { IsInLimits line.now }
     requires new { AreNew (devices (S.state source.old) (K.state sink.old)) }
     ensures run { Does (λ t. IsSessionOf line.now (sourced_by D.source served.entry) t result)

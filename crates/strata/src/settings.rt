@@ -1,5 +1,5 @@
-//! What a line says about serving: the session that a stream begins in, the nodes whose lookups are
-//! counted, and the plan.
+//! The settings of a line for serving: the session in which a stream begins, the nodes whose
+//! lookups are counted, and the plan.
 
 ghost use Rattle.std.specs.Prelude.{◌≡◌};
 ghost use Rattle.strata_words.specs.CommandLine.{IsInLimits};
@@ -8,7 +8,7 @@ ghost use Rattle.strata.specs.Ending.{counted_of, first_of};
 use serve_core::{Counted, Plan, Session};
 use strata_words::Line;
 
-/// The session that the line has its streams begin in.
+/// The session in which the line's streams begin.
 pub fn first_of(line: &Line<'_>) -> Session
     ensures { result ≡ first_of line.now }
 {
@@ -20,7 +20,7 @@ pub fn first_of(line: &Line<'_>) -> Session
 }
 
 /// The nodes whose lookups are counted: all, if a file is named for their balances. Otherwise
-/// nobody would see them, and they take time and memory.
+/// nothing would use the counts, which take time and memory.
 pub fn counted_of(line: &Line<'_>) -> Counted
     ensures { result ≡ counted_of line.now }
 {
@@ -31,7 +31,7 @@ pub fn counted_of(line: &Line<'_>) -> Counted
     }
 }
 
-/// The plan that the line says.
+/// The plan of the line.
 pub fn plan_of(line: &Line<'_>) -> Plan
     requires { IsInLimits line.now }
     ensures workers { result.workers ≡ line.now.workers }

@@ -12,8 +12,8 @@ use std::io::Write;
 use strata_images::put_lines;
 use strata_words::version::{LOGIC, VERSION};
 
-/// Puts the line of the version, and gives the exit status: 0, or that of a fault, whose line goes
-/// to `faults`.
+/// Writes the line of the version, and returns the exit status: 0, or that of a fault, whose line
+/// is written to `faults`.
 pub fn tell_version<A: Allocator, K: Sink, E: Write>(alloc: A, output: &mut K, faults: &mut E) -> u8
     requires { (K.state output.old).counts.failures < 2 ^ 63 }
     ensures { TellsVersion result (K.state output.old) (K.state output.new) }

@@ -1,5 +1,5 @@
--- How many images a check accepts: `accepted` adds the number to the sizes of good images, `not_accepted` says the
--- same of the first that is not.
+-- How many images a check accepts: `accepted` adds the number to the sizes of good images, `not_accepted` says the same about the first
+-- that is not good.
 use Rattle.std.proofs.Common.{◌≡◌, ◌≤◌, ℕ, List, length, inl, true, Result, Ok, Err, IfOk, IfErr}
 use Rattle.std.specs.declared.vec.Vec.{Vec}
 use Rattle.stack_model.specs.declared.limits.TheConstants.{MAX_LAYERS}

@@ -1,5 +1,5 @@
--- How a list stopped. `list_stopped` joins the reported fault with what it left in the output, `unlisted` is the end before that;
--- `told_on` reports a fault as it came.
+-- How a list stopped. `list_stopped` joins the reported fault with what it left in the output, `unlisted` is the end before that; `told_on`
+-- reports a fault unchanged.
 use Rattle.std.proofs.Common.{◌≡◌, sym, ap, subst, refl, inl, inr, ℕ, List, [], ◌∷◌, map, Result, Ok, Err, IfErr, IsErrAnd}
 use Rattle.romfs_held.specs.Images.{held_bytes}
 use Rattle.romfs_files.specs.declared.loaded.LoadedImage.{LoadedImage}
@@ -17,7 +17,7 @@ use Rattle.strata_images.specs.declared.faults.ImagesFault.TheVariants as faults
 use Rattle.strata_images.specs.Faults.{list_told_of}
 use Rattle.strata_images.specs.Listing.{IsNotListed}
 
--- a list that was broken off did not list the stack, and its fault tells why
+-- a list that stopped early did not list the stack, and its fault says why
 pub list_stopped : {profile : Profile} {images : List (List ℕ)} {stack : Stacked} (old new : SinkState) (r : Result (Unit {0}) ImagesFault)
     (fault : ListFault)
     → AreStacked profile ROOT images stack → IsBrokenOff stack old new fault → IsErrAnd r (λ told. told ≡ list_told_of fault)
@@ -38,7 +38,7 @@ pub told_on : {X : Type 0} (Q : ImagesFault → Type 0) (r : Result X ImagesFaul
 told_on Q (Ok u) fault e q = absurd e
 told_on Q (Err told) fault e q = subst Q (sym e) q
 
--- images taken apart have the bytes that they had
+-- images taken apart keep their bytes
 pub bytes_apart : {F A : Type 0} (images : List (LoadedImage F A))
     → map held_bytes (map (λ (image : LoadedImage F A). image.held) images) ≡ map loaded_bytes images
 bytes_apart [] = refl

@@ -1,6 +1,6 @@
--- The images of a line. `loaded_sources` says what the data of those that were loaded are read from, `stacked_sources` that
--- their stack has the same; `read_held` and `whole_held` that nothing is where they are read in full, and `held_whole` that a
--- stack without sources is held. `seen_as` lends their files. `loaded_ones` says what is held of images for a line that checks.
+-- The images of a line. `loaded_sources` says what the data of loaded images are read from, `stacked_sources` that their stack has the
+-- same; `read_held` and `whole_held` that they are read from no source if the images are read in full, and `held_whole` that a stack
+-- without sources is held. `seen_as` lends their files. `loaded_ones` says what is held of images for a line that checks.
 use Rattle.std.proofs.Common.{◌≡◌, ◌≤◌, ◌⊎◌, ◌||◌, ◌∙◌, sym, ap, subst, refl, ℕ, suc, inl, inr, true, false, true≢false, List, [], ◌∷◌, length, map, Bool, Option, Some, None, Vec, vec_len, arith}
 use Rattle.std.specs.List.{list_all}
 use Rattle.std.proofs.lemmas.List.{length-map}
@@ -84,7 +84,7 @@ is_whole_of : {A : Type 0} (known : Option (List ℕ)) (held : HeldImage A) → 
 is_whole_of known (Kept kept) h = absurd h
 is_whole_of known (Whole bytes) h = refl
 
--- an image that is read in full is held whole, by its digest, and read from nothing
+-- an image that is read in full is held in full, by its digest, and read from no source
 abbrev IsAllBy : {F A : Type 0} → Option Digest → LoadedImage F A → Type 0
 IsAllBy digest image = (is_whole image.held ≡ true) × (image.source ≡ None) × IsImageBy digest (held_bytes image.held)
 
@@ -159,7 +159,7 @@ loaded_sources line known loading images held files is loaded apart =
     by_way (inr left) = are_sources line known images (list_all is_whole (held_of images)) is.told is.each left.0
         (subst (λ l. AreLoadedBy known l line.digests.items images) left.1 loaded)
 
--- what images have their data from where they are held whole, a stack that is whole has too
+-- the sources of images' data hold for their stack, if the stack is complete when all images are held in full
 pub stacked_sources : (line : Line) (whole stacked : Bool) (images : List (List ℕ)) (sources : List Source)
     → (whole ≡ true → stacked ≡ true) → HaveSources line whole images sources → HaveSources line stacked images sources
 stacked_sources line whole stacked images sources same have =
@@ -185,7 +185,7 @@ pub read_held : (line : Line) (images : List (List ℕ)) (by : Sourced) (p : Are
     → by ≡ in_memory by.stack
 read_held line images by p all = ap (λ sources. sourced by.stack sources) (p.sources.read all).1
 
--- as where a line asks for all bytes
+-- for instance if a line asks for all bytes
 pub whole_held : (line : Line) (images : List (List ℕ)) (by : Sourced) → line.whole ≡ true → ArePrepared line images by
     → by ≡ in_memory by.stack
 whole_held line images by whole p = read_held line images by p (inl whole)
@@ -224,7 +224,7 @@ not_whole : (line : Line) (told : List (Option ℕ)) → line.whole ≡ false �
 not_whole line told left stay (inl whole) = true≢false (sym whole ∙ left)
 not_whole line told left stay (inr small) = true≢false (sym stay ∙ small.0)
 
--- and so it is over a device, and where a line says `--in-files`
+-- and so it is over a device, and if a line says `--in-files`
 pub in_their_files : (line : Line) (images : List (List ℕ)) (by : Sourced) → line.whole ≡ false
     → (line.in_files ≡ true) ⊎ (line.device ≡ true) → ArePrepared line images by → length by.sources ≡ length images
 in_their_files line images by left said p =
@@ -271,7 +271,7 @@ loaded_ones {F} {A} line known loading images is loaded = by_way is.is
     by_way (inr left) = each_held known (trailers_of line) (how.Gather (trailers_of line)) (gathered_one known (trailers_of line))
         line.digests.items images (subst (λ l. AreLoadedBy known l line.digests.items images) left.1 loaded)
 
--- images that are prepared with their files are so with all of these, lent
+-- images that are prepared with their files are prepared with all of these, borrowed
 pub seen_as : {F A B : Type 0} (line : Line) (images : List (List ℕ)) (stack : Stacked) (files : Vec (ImageData F A) B)
     (lent : List (ImageData F A)) → lent ≡ files.items → ArePrepared line images (sourced stack (sources_of files))
     → ArePrepared line images (sourced stack (map source_of lent))

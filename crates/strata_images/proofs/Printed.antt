@@ -1,5 +1,5 @@
--- What numbers look like in print (`as_place`), and how a loop that prints a line for each of a list (`IsPrinted`) begins, goes on and
--- ends.
+-- What numbers look like in print (`as_place`), and how a loop that prints a line for each element of a list (`IsPrinted`) begins,
+-- continues and ends.
 use Rattle.std.proofs.Common.{◌≡◌, ◌∙◌, sym, ap, ℕ, ◌+◌, ◌-◌, ◌^◌, ◌<◌, ◌≤◌, List, [], ◌++◌, length, drop, replicate, false, append-nil, append_assoc, slice_index_or, arith}
 use Rattle.std.proofs.lemmas.List.{drop_more}
 use Rattle.std.proofs.Math.ListN.{drop_of_length-le}
@@ -23,7 +23,7 @@ module _ {X : Type 0} (line : ℕ → X → List ℕ) (first : ℕ) (xs : List X
       let same : 0 + first ≡ first = omega arith in
       record { whole = ap (λ t. t ++ numbered_lines line (0 + first) xs) e ∙ ap (λ n. numbered_lines line n xs) same }
 
-  -- the next line behind the text makes it that of one more
+  -- the next line after the text makes it that of one more
   pub one_more_printed : {text : List ℕ} {place : ℕ} → IsPrinted place text → (more : List ℕ) (n : ℕ) (none : X) → n ≡ place + first
       → place < length xs → more ≡ text ++ line n (slice_index_or xs place none) → IsPrinted (place + 1) more
   unfolding numbered_lines
@@ -37,7 +37,7 @@ module _ {X : Type 0} (line : ℕ → X → List ℕ) (first : ℕ) (xs : List X
             ∙ ap (λ left. text ++ numbered_lines line (place + first) left) (sym (drop_more xs place none b)) ∙ p.whole;
       }
 
-  -- where none is left, the text is all lines
+  -- if none is left, the text is all lines
   pub all_printed : (text : List ℕ) (place : ℕ) → length xs ≤ place → IsPrinted place text → text ≡ numbered_lines line first xs
   unfolding numbered_lines
   all_printed text place b p = sym (append-nil text)

@@ -64,7 +64,7 @@ pub judged : (line : Line) (source : Source) (bytes image : List ℕ) → Shows 
 judged line source bytes image shown g =
     judged_by line.strict (asks_attributes line) (reports_trailers line.verb) source bytes image shown g
 
--- an image that is held whole is judged as its file is
+-- an image that is held in full is judged like its file
 judged_held : {A : Type 0} (line : Line) (bytes : List ℕ) (held : HeldImage A) → IsWholeOf (Some bytes) held
     → IsJudged (profile_of line) bytes (held_bytes held)
 judged_held line bytes (Kept kept) h = absurd h

@@ -1,6 +1,5 @@
--- Images that are checked one after another. `one_more` is the step of the loop: the next image is
--- good, and its size is put behind the others. `all_sized` ends it, or `first_refused`: the next image
--- is not good. `good_put` says how a check ends.
+-- Images that are checked one after another. `one_more` is the step of the loop: the next image is good, and its size is added after the
+-- others. `all_sized` ends it, or `first_refused`: the next image is not good. `good_put` says how a check ends.
 use Rattle.std.proofs.Common.{◌≡◌, ◌∙◌, sym, ap, refl, subst, arith, ℕ, List, [], ◌∷◌, ◌++◌, append_assoc, append-nil, length, map, inl, Result, Ok, Err, IfErr, IsErrAnd}
 use Rattle.std.proofs.lemmas.List.{length-map, map-append}
 use Rattle.std.proofs.lemmas.List.Elements.{All-push}
@@ -28,7 +27,7 @@ none_sized v profile all = record {
   good = record { sound = λ k d l. absurd (omega arith); sizes_are = refl };
 }
 
--- a good image goes from what is left to what is checked
+-- a good image moves from those that are left to those that are checked
 pub one_more : {X : Type 0} {v : X → List ℕ} {profile : Profile} {all : List (List ℕ)} {left : List X} {sizes : List ℕ}
     → AreSized v profile all left sizes → (x : X) (rest : List X) → left ≡ x ∷ rest → (full : ℕ) → full ≡ length (image (v x))
     → IsSound profile (v x) → AreSized v profile all rest (sizes ++ full ∷ [])
@@ -46,7 +45,7 @@ nothing : {X : Type 0} (xs : List X) → length xs ≡ 0 → xs ≡ []
 nothing [] none = refl
 nothing (x ∷ xs) none = absurd (omega (arith, none))
 
--- where none is left, all are good
+-- if none is left, all are good
 pub all_sized : {X : Type 0} (v : X → List ℕ) (profile : Profile) (all : List (List ℕ)) (left : List X) (sizes : List ℕ)
     → AreSized v profile all left sizes → length left ≡ 0 → AreSizes profile all sizes
 all_sized v profile all left sizes s none =

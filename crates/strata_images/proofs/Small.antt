@@ -1,6 +1,6 @@
--- Files that reported their sizes. `told_small` is all of them if they are small, `told_large` if one is not regular or they are too large
--- with it; `one_more` is the step between. `told_whole` is a line that asks for all bytes, `told_left` one that leaves images in their
--- files.
+-- Files that reported their sizes. `told_small` is about all of them if they are small, `told_large` if one is not regular or they are too
+-- large with it; `one_more` is the step between. `told_whole` is about a line that asks for all bytes, `told_left` about one that leaves
+-- images in their files.
 use Rattle.std.proofs.Common.{◌≡◌, ◌≤◌, ◌<◌, ◌+◌, ◌-◌, ◌^◌, ◌∙◌, ◌↔◌, sym, refl, ℕ, suc, inl, inr, true, false, true≢false, List, [], ◌∷◌, ◌++◌, length, map, replicate, sum, Bool, Option, Some, None, IsTrue, arith, length-append, vec_len}
 use Rattle.std.proofs.lemmas.List.{length-map, length-replicate}
 use Rattle.std.proofs.lemmas.List.Sums.{sum_by-cons, sum_by_push}

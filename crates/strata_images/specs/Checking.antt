@@ -25,7 +25,7 @@ pub record AreSizes (profile : Profile) (images : List (List ℕ)) (sizes : List
   pub sound : All (IsSound profile) images
   pub sizes_are : sizes ≡ map (λ b. length (image b)) images
 
--- the images before this one are good, and why it was refused
+-- the images before this one are good, and this is why it was refused
 pub record IsFirstRefused (profile : Profile) (images : List (List ℕ))
     (fault : ImagesFault) : Type 0 where
   pub before : List (List ℕ)
@@ -51,7 +51,7 @@ pub record AreTooMany (line : Line) (images : List (List ℕ)) (fault : ImagesFa
   pub many : MAX_LAYERS < length images
   pub told : fault ≡ Layers (length images)
 
--- one of the images is to blame, or their number, or memory ran out
+-- one of the images is at fault, or their number, or memory ran out
 abbrev pub AreNotAccepted : Line → List (List ℕ) → ImagesFault → Type 0
 AreNotAccepted line images fault =
     IsFirstFault (profile_of line) images fault ⊎ AreTooMany line images fault
@@ -62,7 +62,7 @@ pub record AreGood (line : Line) (images : List (List ℕ)) (old new : SinkState
   pub accepted : AreAccepted line images sizes
   pub put : ArePut (size_lines 0 sizes) old new
 
--- these images are good, but the output failed as it took the lines of their sizes
+-- these images are good, but the output failed while the lines of their sizes were written
 pub record AreUntold (line : Line) (images : List (List ℕ)) (fault : ImagesFault)
     (old new : SinkState) : Type 0 where
   pub told : fault ≡ Write
@@ -70,7 +70,7 @@ pub record AreUntold (line : Line) (images : List (List ℕ)) (fault : ImagesFau
   pub accepted : AreAccepted line images sizes
   pub lost : AreLost (size_lines 0 sizes) old new
 
--- a check stopped: for the images or memory, and the output is as it was; or the output failed
+-- a check stopped: for the images or memory, and the output is unchanged; or the output failed
 abbrev pub AreNotGood : Line → List (List ℕ) → ImagesFault → SinkState → SinkState → Type 0
 AreNotGood line images fault old new =
     (AreNotAccepted line images fault × (new ≡ old)) ⊎ AreUntold line images fault old new

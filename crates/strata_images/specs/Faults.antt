@@ -1,4 +1,4 @@
--- Why the images of a line are not used, or what is said of them is not printed.
+-- Why the images of a line are not used, or not reported.
 use Rattle.std.specs.Prelude.{◌≡◌, ◌<◌, ℕ, ◌⊎◌, None, get_or, is_some, true, vec_len}
 use Rattle.romfs_files.specs.declared.images.FilesFault.{FilesFault}
 use Rattle.romfs_files.specs.declared.images.FilesFault.TheVariants as files
@@ -40,8 +40,8 @@ list_told_of list.Memory = Memory
 abbrev pub HasDigestFor : Line → ℕ → Type 0
 HasDigestFor line image = is_some (get_or line.digests.items image None) ≡ true
 
--- the file of one of the images of a line was not read; or one for which it has a digest is not as
--- sealed; or memory ran out
+-- the file of one of the images of a line was not read; or one with a digest is not as sealed; or
+-- memory ran out
 abbrev pub AreUnread : Line → ImagesFault → Type 0
 AreUnread line fault =
     ((image : ℕ) × (image < vec_len line.images)

@@ -1,5 +1,5 @@
--- The images of a line, as they are held: all bytes of each, or what the rules check, with zeros
--- for the rest.
+-- The images of a line, as they are held: all bytes of each, or only what the rules check, with
+-- zeros for the rest.
 use Rattle.std.specs.Prelude.{◌≡◌, ◌≤◌, ◌^◌, ◌⊎◌, ◌||◌, ℕ, Bool, true, false, List, [], ◌∷◌, Option, Some, None, ⊤, length, map, sum, vec_len, if◌then◌else◌}
 use Rattle.std.specs.declared.vec.Vec.{Vec}
 use Rattle.romfs_format.specs.declared.rule.Profile.{Profile}
@@ -29,11 +29,11 @@ use Rattle.strata_words.specs.declared.options.Verb.TheVariants as verbs
 use Rattle.strata_images.specs.declared.faults.ImagesFault.{ImagesFault}
 use Rattle.strata_images.specs.Faults.{refusal_told_of}
 
--- whether a line asks for attributes, by themselves or as a mount does
+-- whether a line asks for attributes, by an option for them alone or as a mount does
 abbrev pub asks_attributes : Line → Bool
 asks_attributes line = line.attributes || line.as_mounted
 
--- the rules that a line holds images to, and whether their attributes are read
+-- the rules of a line for its images, and whether their attributes are read
 abbrev pub profile_of : Line → Profile
 profile_of line = profile_with line.strict (asks_attributes line)
 
@@ -52,22 +52,22 @@ trailers_of line = if asks_attributes line || reports_trailers line.verb then Re
 abbrev pub NamesAsMany : Line → List (List ℕ) → Type 0
 NamesAsMany line images = length images ≡ vec_len line.images
 
--- each of these is as this says by the digest in its place
+-- each of these is in this relation to the digest in its place
 abbrev pub AreEachBy : {X : Type 0} → (Option Digest → X → Type 0) → List (Option Digest)
     → List X → Type 0
 AreEachBy IsBy digests [] = ⊤
 AreEachBy IsBy [] (x ∷ xs) = ⊥
 AreEachBy IsBy (digest ∷ digests) (x ∷ xs) = IsBy digest x × AreEachBy IsBy digests xs
 
--- this is held of an image: of some file all bytes, those that are known of it; or what the rules
--- look at, with the trailer or without; or it is held under a digest
+-- what is held of an image: all bytes of some file, which are those known of it; or what the rules
+-- read, with the trailer or without; or bytes under a digest
 abbrev pub IsHeldBy : {F A : Type 0} → (F → Option (List ℕ)) → Trailers → Option Digest
     → LoadedImage F A → Type 0
 IsHeldBy known trailers None image = IsOfFile (λ file. IsHeldOf (known file) trailers) image
 IsHeldBy known trailers (Some digest) image =
     IsWholeUnder digest image ⊎ IsHeldUnder digest trailers image
 
--- so it is of the images of a line, with their trailers where it asks for attributes
+-- this holds for the images of a line, with their trailers if it asks for attributes
 abbrev pub AreHeldFor : {F A : Type 0} → Line → (F → Option (List ℕ)) → List (LoadedImage F A)
     → Type 0
 AreHeldFor line known images =
@@ -93,7 +93,7 @@ bytes_of images = held_contents images
 abbrev pub are_whole : {A B : Type 0} → Vec (HeldImage A) B → Bool
 are_whole images = all_held_whole images.items
 
--- what reads of the data of images may give
+-- what reads of the data of images may return
 abbrev pub sources_of : {F A B : Type 0} → Vec (ImageData F A) B → List Source
 sources_of files = map source_of files.items
 
@@ -101,7 +101,7 @@ sources_of files = map source_of files.items
 abbrev pub IsDataOf : Trailers → List ℕ → Source → Type 0
 IsDataOf trailers image source = WasGathered trailers source image
 
--- those of each image are so
+-- the same for those of each image
 abbrev pub AreDataOf : Trailers → List (List ℕ) → List Source → Type 0
 AreDataOf trailers [] [] = ⊤
 AreDataOf trailers (image ∷ images) (source ∷ sources) =
@@ -119,7 +119,7 @@ HasDigest (Some digest) bytes =
 abbrev pub stay_in_files : Line → Bool
 stay_in_files line = line.in_files || line.device
 
--- the data of images are read from nothing, since all bytes are held
+-- the data of images are not read from any source, since all bytes are held
 abbrev pub AreHeldWhole : Bool → List Source → Type 0
 AreHeldWhole whole sources = (whole ≡ true) × (sources ≡ [])
 
@@ -134,17 +134,17 @@ pub record AreSmall (told : List (Option ℕ)) : Type 0 where
 abbrev pub AreReadWhole : Line → List (Option ℕ) → Type 0
 AreReadWhole line told = (line.whole ≡ true) ⊎ ((stay_in_files line ≡ false) × AreSmall told)
 
--- how the images of a line are loaded, by what the file of each has told of its size: whole, or
--- else so
+-- how the images of a line are loaded, by the size that the file of each has reported: in full, or
+-- otherwise as given
 pub record IsLoadingOf (line : Line) (otherwise loading : Loading) : Type 0 where
   pub told : List (Option ℕ)
   pub each : length told ≡ vec_len line.images
   pub is : (AreReadWhole line told × (loading ≡ Whole))
       ⊎ ((¬ AreReadWhole line told) × (loading ≡ otherwise))
 
--- what the data of the images of a line are read from, by what the file of each has told of its
--- size: from nothing, where they are read in full; else each from a source of its own. And each
--- image, or its source, is by the digest in its place
+-- what the data of the images of a line are read from, by the size that the file of each has
+-- reported: from no source, if they are read in full; otherwise each from a source of its own. And
+-- each image, or its source, matches the digest in its place
 pub record HaveSources (line : Line) (whole : Bool) (images : List (List ℕ))
     (sources : List Source) : Type 0 where
   pub told : List (Option ℕ)
@@ -160,7 +160,7 @@ pub record ArePrepared (line : Line) (images : List (List ℕ)) (by : Sourced) :
   pub stacked : AreStacked (profile_of line) line.owner images by.stack
   pub sources : HaveSources line by.stack.whole images by.sources
 
--- why images are not stacked: one of them is to blame, or their number, or memory ran out
+-- why images are not stacked: one of them is at fault, or their number, or memory ran out
 pub record AreNotStacked (profile : Profile) (images : List (List ℕ))
     (fault : ImagesFault) : Type 0 where
   pub refusal : Refusal

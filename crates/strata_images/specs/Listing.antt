@@ -11,15 +11,15 @@ use Rattle.strata_images.specs.declared.faults.ImagesFault.{ImagesFault}
 use Rattle.strata_images.specs.declared.faults.ImagesFault.TheVariants.{Memory, Write}
 use Rattle.strata_images.specs.Images.{AreNotStacked}
 
--- the images are good, and the output gained a line for each path that their stack shows; none
--- waits for a flush. Owners are not listed
+-- the images are good, and the output gained a line for each path that their stack shows; all are
+-- flushed. Owners are not listed
 pub record IsStackListed (profile : Profile) (images : List (List ℕ))
     (old new : SinkState) : Type 0 where
   pub stack : Stacked
   pub stacked : AreStacked profile ROOT images stack
   pub listed : Lists stack old new
 
--- the images are good, but the output failed as it took the lines of their paths
+-- the images are good, but the output failed while the lines of their paths were written
 pub record IsListLost (profile : Profile) (images : List (List ℕ)) (fault : ImagesFault)
     (old new : SinkState) : Type 0 where
   pub told : fault ≡ Write
@@ -27,7 +27,7 @@ pub record IsListLost (profile : Profile) (images : List (List ℕ)) (fault : Im
   pub stacked : AreStacked profile ROOT images stack
   pub broken : IsBrokenOff stack old new list.Write
 
--- a list stopped: the images are not stacked, or memory ran out, and the output is as it was; or
+-- a list stopped: the images are not stacked, or memory ran out, and the output is unchanged; or
 -- the output failed
 abbrev pub IsNotListed : Profile → List (List ℕ) → ImagesFault → SinkState → SinkState → Type 0
 IsNotListed profile images fault old new =

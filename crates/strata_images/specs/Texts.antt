@@ -47,7 +47,7 @@ size_lines = numbered_lines size_line
 abbrev pub shows_trailer : List ℕ → Bool
 shows_trailer b = nat_le HEAD_SIZE (length b) && has_trailer b
 
--- the line of an image whose trailer was not asked for; none of an image without one
+-- the line of an image whose trailer was not requested; none for an image without one
 abbrev pub trailer_line : ℕ → List ℕ → List ℕ
 trailer_line layer b = if shows_trailer b
     then codes "layer " ++ (decimal layer ++ codes ": attributes not read\n") else []

@@ -22,9 +22,9 @@ use std::io;
 use std::os::unix::fs::FileExt;
 use strata_words::Line;
 
-/// Checks the images of a line in order, by what is held of them, and puts a line for each if all
+/// Checks the images of a line in order, by what is held of them, and writes a line for each if all
 /// are good; with `--as-mounted` there may be at most 128. Then it notes those with a trailer that
-/// the line does not ask for. Otherwise nothing is put.
+/// the line does not ask for. Otherwise nothing is written.
 pub fn check<F: FileExt + Drop, A: Allocator + Copy, K: Sink, E: io::Write>(
     alloc: A,
     line: &Line<'_>,
@@ -47,7 +47,7 @@ pub fn check<F: FileExt + Drop, A: Allocator + Copy, K: Sink, E: io::Write>(
     Ok(())
 }
 
-// Checks the images of a line, and puts a line for each if all are good.
+// Checks the images of a line, and writes a line for each if all are good.
 fn put_sizes<F: FileExt + Drop, A: Allocator + Copy, K: Sink>(
     alloc: A,
     line: &Line<'_>,
@@ -65,7 +65,7 @@ fn put_sizes<F: FileExt + Drop, A: Allocator + Copy, K: Sink>(
     Ok(put_lines(output, lines.as_bytes())?)
 }
 
-// A line for each of these sizes in bytes, by the number of its image.
+// A line for each of these sizes in bytes, with the number of its image.
 fn lines_of<A: Allocator>(alloc: A, sizes: &[u32]) -> Result<String<A>, AllocError>
     ensures { IfOk result (λ lines. string_bytes lines ≡ size_lines 0 sizes.now) }
 {
@@ -76,8 +76,8 @@ fn lines_of<A: Allocator>(alloc: A, sizes: &[u32]) -> Result<String<A>, AllocErr
     Ok(lines)
 }
 
-// How many bytes of each image of a line are accessible, if all are good, and at most 128 if it
-// accepts what a mount does.
+// How many bytes of each image of a line are accessible, if all are good, and at most 128 if the
+// line accepts what a mount does.
 fn accepted_sizes<F: FileExt + Drop, A: Allocator + Copy>(
     alloc: A,
     line: &Line<'_>,
@@ -95,8 +95,8 @@ fn accepted_sizes<F: FileExt + Drop, A: Allocator + Copy>(
     checked_sizes(alloc, images, profile_of(line))
 }
 
-// How many bytes of each image are accessible, if all are good. Else it names the fault of the
-// first that is not.
+// How many bytes of each image are accessible, if all are good. Otherwise the fault of the first
+// that is not.
 fn checked_sizes<F: FileExt + Drop, A: Allocator + Copy>(
     alloc: A,
     images: Vec<LoadedImage<F, A>, A>,
@@ -113,7 +113,7 @@ fn checked_sizes<F: FileExt + Drop, A: Allocator + Copy>(
     Ok(sizes)
 }
 
-// How many bytes of the image of this number are accessible.
+// How many bytes of the image with this number are accessible.
 fn checked_size<F: FileExt + Drop, A: Allocator + Copy>(
     alloc: A,
     number: u64,

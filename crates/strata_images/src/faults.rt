@@ -1,5 +1,5 @@
-//! Why the images of a line are not used, or what is said of them is not printed: a line and an
-//! exit status each.
+//! Why the images of a line are not used, or not reported: a line and an exit status for each
+//! fault.
 
 ghost use Rattle.std.specs.Prelude.{◌≡◌};
 ghost use Rattle.strata_images.specs.Faults.{status_of};
@@ -13,14 +13,13 @@ use stack_prepare::Refusal;
 use std::alloc::{AllocError, AllocFailed};
 use std::fmt;
 
-/// Why the images of a line are not used, or what is said of them is not printed. Its `Display` is
-/// the line for standard error.
+/// Why the images of a line are not used, or not reported. Its `Display` is the line for standard
+/// error.
 #[derive(Clone, Copy, Debug, PartialEq, Eq)]
 pub enum ImagesFault {
-    /// The file of this image, counted from 0, cannot be read to its end.
+    /// The file of this image, counted from 0, cannot be read in full.
     Unread { image: u64 },
-    /// The file of this image, counted from 0, or that of its tree is not the one that its digest
-    /// names.
+    /// The file of this image, counted from 0, or that of its tree does not match its digest.
     Unsealed { image: u64 },
     /// This image, counted from 0, breaks a rule.
     Broken { image: u64, fault: ImageFault },
@@ -33,7 +32,7 @@ pub enum ImagesFault {
 }
 
 impl ImagesFault {
-    /// The exit status that it ends the program with.
+    /// The exit status of the program for it.
     pub fn status(self) -> u8
         ensures { result ≡ status_of self }
     {

@@ -1,4 +1,4 @@
-//! The images of a line, as they are read: in full, or what the rules check.
+//! The images of a line, as they are read: in full, or only what the rules check.
 
 ghost use Rattle.std.specs.Prelude.{◌≡◌, ◌↔◌, ℕ, List, Option, length, vec_len, IfOk, IfErr, IsTrue};
 ghost use Rattle.strata_words.specs.CommandLine.{IsInLimits};
@@ -16,12 +16,12 @@ use std::os::unix::fs::FileExt;
 use std::thread::Threads;
 use strata_words::{Line, Verb};
 
-/// The most bytes, in all, of images that are read in full if no mount is served: to read this many
-/// takes less time than to gather what the rules check.
+/// The most bytes, in all, of images that are read in full if no mount is served: reading this many
+/// takes less time than gathering what the rules check.
 const SMALL_STACK: u64 = 32 << 20;
 
-/// The images of a line, the lowest layer first: what is held of them, and what the data of each
-/// are read from, where they are not held whole.
+/// The images of a line, the lowest layer first: what is held of them, and where the data of each
+/// are read from, if they are not held in full.
 #[derive(Drop)]
 pub struct LineImages<F: FileExt, A: Allocator> {
     pub held: Vec<HeldImage<A>, A>,
@@ -55,7 +55,8 @@ where
 }
 
 /// What is held of the images of a line that checks or lists, none of which stays open. They are
-/// read in full as those of a line that serves are; otherwise it is what the rules check.
+/// read in full under the same conditions as those of a line that serves; otherwise it is what the
+/// rules check.
 pub fn gather_all<R: Files + Threads + Sync, A: Allocator + Copy + Send + Sync>(
     rt: &R,
     alloc: A,
@@ -75,7 +76,7 @@ where
     Ok(load(rt, alloc, paths, line.digests.as_slice(), loading)?)
 }
 
-// How the images of a line are loaded: all bytes where they are read in full, else so.
+// How the images of a line are loaded: all bytes if they are read in full, otherwise as given.
 fn loading_of<R: Files>(rt: &R, line: &Line<'_>, otherwise: Loading) -> Loading
     ensures { IsLoadingOf line.now otherwise result }
 {
@@ -100,8 +101,8 @@ fn are_read_whole<R: Files>(rt: &R, line: &Line<'_>) -> bool
     are_small(rt, line.images.as_slice())
 }
 
-// Whether these are regular files of at most [`SMALL_STACK`] bytes together. Those behind the first
-// that is none, or too large, are not asked.
+// Whether these are regular files of at most [`SMALL_STACK`] bytes together. Files after the first
+// that is not regular, or too large, are not examined.
 fn are_small<R: Files>(rt: &R, paths: &[&str]) -> bool
     ensures { (told : List (Option ℕ)) × (length told ≡ length paths.now)
         × (IsTrue result ↔ AreSmall told) }

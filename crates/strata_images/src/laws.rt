@@ -22,9 +22,9 @@ ghost use Rattle.strata_images.specs.Images.{AreEachBy, ArePrepared, AreReadWhol
 use std::alloc::Allocator;
 use std::os::unix::fs::FileExt;
 
-/// The data of images that are read in full are read from nothing, as with `--whole`: what is
+/// If images are read in full, as with `--whole`, their data are not read from any source: what is
 /// promised over their stack is what is promised over a held stack, and a READ is answered with
-/// their bytes. And only the data of a stack whose bytes are all held are read from nothing.
+/// their bytes. Only the data of a stack whose bytes are all held are read from no source.
 #[tactic(auto, using(crate::proofs::Opened::read_held, crate::proofs::Opened::whole_held, crate::proofs::Opened::held_whole))]
 pub fn whole_images_are_held()
     ensures read { (line : Line) (images : List (List ℕ)) (by : Sourced)
@@ -36,7 +36,7 @@ pub fn whole_images_are_held()
         ArePrepared line images by → by.stack.whole ≡ true }
 {}
 
-/// The data of images that are not read in full are read from a source for each, as over a device,
+/// The data of images that are not read in full are read from one source each, as over a device,
 /// and with `--in-files`, if the line does not have `--whole`.
 #[tactic(auto, using(crate::proofs::Opened::left_in_files, crate::proofs::Opened::in_their_files))]
 pub fn images_stay_in_their_files()
@@ -48,7 +48,7 @@ pub fn images_stay_in_their_files()
         length by.sources ≡ length images }
 {}
 
-/// What is kept of an image besides its data is judged by the rules of a line as whatever bytes
+/// What is kept of an image without its data is judged by the rules of a line like any bytes that
 /// these show, with attributes and without.
 pub fn opened_images_are_judged_as_their_data()
     ensures { (line : Line) (source : Source) (bytes image : List ℕ) →
@@ -58,7 +58,7 @@ pub fn opened_images_are_judged_as_their_data()
         ↔ IsRefusal (profile_of line) bytes fault) }
 {}
 
-/// An image held in full, such as one from a pipe, is judged as all bytes of its file are, if these
+/// An image held in full, such as one from a pipe, is judged like all bytes of its file, if these
 /// are known.
 #[tactic(auto, using(crate::proofs::Rules::judged_whole))]
 pub fn whole_images_are_judged_as_their_files<F: FileExt, A: Allocator>()
@@ -69,9 +69,9 @@ pub fn whole_images_are_judged_as_their_files<F: FileExt, A: Allocator>()
         ↔ IsRefusal (profile_of line) bytes fault) }
 {}
 
-/// Under the digests of a line no other images are served: those that its sources show have these
-/// digests, each its own; and an image that is read in full is the one that has the digest, unless
-/// a read gave, in the place of a block, another with its digest.
+/// Under the digests of a line no other images are served: the images that its sources show have
+/// these digests, each its own; and an image that is read in full is the one with the digest,
+/// unless a read returned, instead of a block, another with its digest.
 pub fn images_have_their_digests()
     ensures shown { (line : Line) (kept images : List (List ℕ)) (by : Sourced)
         (p : ArePrepared line kept by) → (AreReadWhole line p.sources.told → ⊥) →
@@ -80,7 +80,7 @@ pub fn images_have_their_digests()
         Shows (sealed (seal_by digest by.0)) bytes → image ≡ bytes }
 {}
 
-/// A line has an option for sums and two for attributes, and its stack has its owner.
+/// A line has one option for sums and two for attributes, and its stack has its owner.
 #[tactic(auto, using(crate::proofs::Rules::asks, crate::proofs::Rules::reads))]
 pub fn lines_say_their_rules()
     ensures sums { (line : Line) → asks_sums (profile_of line) ≡ line.strict }

@@ -1,4 +1,4 @@
-//! Lines that are put in full.
+//! Lines that are written in full.
 
 ghost use Rattle.std.specs.Prelude.{◌<◌, ◌^◌, OnOk, IfErr};
 ghost use Rattle.std.specs.Io.KnownBytes.{Appends};
@@ -8,7 +8,7 @@ ghost use Rattle.strata_images.specs.Lines.{AreLost, ArePut};
 use devices::{Failed, Sink, hand_on};
 use std::io::{self, Error, ErrorKind, Write};
 
-/// Puts lines to a sink, and flushes it if there are any. If the sink fails it holds a beginning of
+/// Writes lines to a sink, and flushes it if there are any. If the sink fails it has a prefix of
 /// them, and is not called again.
 pub fn put_lines<K: Sink>(sink: &mut K, lines: &[u8]) -> Result<(), Failed>
     requires { (K.state sink.old).counts.failures < 2 ^ 63 }
@@ -19,7 +19,7 @@ pub fn put_lines<K: Sink>(sink: &mut K, lines: &[u8]) -> Result<(), Failed>
 }
 
 /// Writes bytes, in one write if the writer takes them all. If a write fails, or takes none, the
-/// writer holds the first of them, and is not called again.
+/// writer has a prefix of them, and is not called again.
 pub fn write_bytes<W: Write>(writer: &mut W, bytes: &[u8]) -> io::Result<()>
     ensures whole { OnOk result (Appends (W.contents writer.old) (W.contents writer.new)
         bytes.now) }

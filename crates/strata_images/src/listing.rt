@@ -25,8 +25,9 @@ use std::os::unix::fs::FileExt;
 use std::thread::Threads;
 use strata_words::Line;
 
-/// Checks the images of a line, stacks them, and puts a line for each visible path. Then it notes
-/// the images with a trailer that the line does not ask for. If an image is broken nothing is put.
+/// Checks the images of a line, stacks them, and writes a line for each visible path. Then it notes
+/// the images with a trailer that the line does not ask for. If an image is broken nothing is
+/// written.
 pub fn list<
     R: Threads + Sync,
     F: FileExt + Drop,
@@ -58,7 +59,7 @@ pub fn list<
     Ok(())
 }
 
-// Checks images and stacks them, by what is held of them, and puts a line for each visible path.
+// Checks images and stacks them, by what is held of them, and writes a line for each visible path.
 fn list_held<R: Threads + Sync, A: Allocator + Copy + Send + Sync, K: Sink>(
     rt: &R,
     alloc: A,
@@ -78,7 +79,7 @@ fn list_held<R: Threads + Sync, A: Allocator + Copy + Send + Sync, K: Sink>(
     put_list(alloc, &table, output)
 }
 
-// Puts a line for each path that a stack shows.
+// Writes a line for each path that a stack shows.
 fn put_list<A: Allocator + Copy, K: Sink>(
     alloc: A,
     table: &Table<A>,

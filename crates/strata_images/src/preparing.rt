@@ -14,8 +14,8 @@ use std::os::unix::fs::FileExt;
 use std::thread::Threads;
 use strata_words::Line;
 
-/// The table of the images of a line, checked by its rules, and what the data of its layers are
-/// read from that it does not hold.
+/// The table of the images of a line, checked by its rules, and the sources of the data of its
+/// layers that it does not hold.
 pub fn prepare<R: Threads + Sync, F: FileExt + Drop, A: Allocator + Copy + Send + Sync>(
     rt: &R,
     alloc: A,

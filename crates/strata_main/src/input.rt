@@ -8,7 +8,7 @@ use std::os::unix::fs::{FileTypeExt, MetadataExt};
 use strata::Fault;
 use strata_words::{Line, Verb, line};
 
-/// Standard input, as Linux names what a process has open.
+/// Standard input, in Linux's directory of a process's open files.
 const INPUT: &str = "/proc/self/fd/0";
 
 /// The number of /dev/fuse: major 10, minor 229 (Linux, Documentation/admin-guide/devices.txt).
@@ -20,8 +20,8 @@ const TERMINAL: &str = "error: requests are read from standard input, which is a
 const NO_DEVICE: &str = "error: '--device' needs an open /dev/fuse as standard input\n\n\
     To mount, see strata-mount(1).";
 
-/// The fault of arguments that want requests from a terminal, or that have `--device` if standard
-/// input is neither an open `/dev/fuse` nor a socket, which may replace one. None if the system
+/// The fault of arguments that read requests from a terminal, or that have `--device` if standard
+/// input is neither an open `/dev/fuse` nor a socket, which may replace one. `None` if the system
 /// cannot tell, or if the arguments have a fault, which is reported elsewhere.
 pub fn unfit_input<R: Files>(
     rt: &R,

@@ -16,8 +16,8 @@ use strata_words::words;
 const KEPT: usize = 0x40_0000;
 
 // Allocates a block and frees it untouched. The C library returns each freed block of 128 KiB and
-// more to the kernel, which then clears new pages for the next one. Once a larger block was freed,
-// it keeps those of up to that size. If the block is refused, nothing is lost.
+// more to the kernel, which then clears new pages for the next one. After a larger block is freed,
+// it keeps blocks up to that size. If the block is refused, nothing is lost.
 fn keep_freed_blocks<A: Allocator>(alloc: A) {
     let block: Result<Vec<u8, A>, _> = Vec::with_capacity(alloc, KEPT);
     drop(block);

@@ -1,5 +1,5 @@
--- What an argument or a command that is added makes of a command: `added_rule` and `added_command`
--- say it of the app that the command builds, by which the whole program is then known.
+-- What adding an argument or a command does to a command: `added_rule` and `added_command` say it for the app that the command builds,
+-- which then determines the entire program.
 use Rattle.std.proofs.Common.{◌≡◌, ◌∙◌, ◌<◌, ◌+◌, ℕ, true, false, ap, ap₂, sym, List, [], ◌∷◌, get_or, length, map, take}
 use Rattle.std.proofs.lemmas.List.{map-append, take_more}
 use Rattle.clap.specs.Built.{AddsArg, AddsSubcommand}

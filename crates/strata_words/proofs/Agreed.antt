@@ -1,6 +1,6 @@
 -- What the arguments of a line determine. Arguments name one command, and each verb has its own name; so two lines of the same arguments
--- are equal (`lines_agree`), and arguments with a line have no fault (`lines_are_faultless`), nor have those that ask for the version
--- (`version_is_faultless`).
+-- are equal (`lines_agree`), and arguments with a line have no fault (`lines_are_faultless`), and neither have those that ask for the
+-- version (`version_is_faultless`).
 use Rattle.std.proofs.Common.{◌≡◌, ◌∙◌, ◌==◌, ℕ, cond, ap, refl, sym, subst, List, [], ◌∷◌, Option, Some, unwrap_or, option_map, slice_index, inl, inr}
 use Rattle.clap.specs.Kinds.{IsAmong, Kinds}
 use Rattle.clap.specs.Walk.{Row, Text}

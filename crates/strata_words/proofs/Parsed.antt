@@ -1,6 +1,5 @@
--- What a parse by the program says of the words. It goes from the matches to the rows of the
--- command, from these to the numbers and names of a line, and ends with `line_is` and `fault_is`:
--- what the code gives is the line of the words, or a fault of theirs.
+-- What parsing with the program says about the words. It leads from the matches to the rows of the command, from these to the numbers and
+-- names of a line, and ends with `line_is` and `fault_is`: what the code returns is the line of the words, or one of their faults.
 use Rattle.std.specs.Borrow.{Bor}
 use Rattle.std.specs.Prelude.{Box}
 use Rattle.std.specs.Box.{box_value}
@@ -46,7 +45,7 @@ program_is_simple = refl
 program_is_free : is_simple_and_free program ≡ true
 program_is_free = refl
 
--- where it gives matches, the words are a command of the program
+-- if it gives matches, the words are a command of the program
 pub parsed_taken : (a : App) (words : List Text) → a ≡ program → (is_simple_and_free a ≡ true → fault_of a words ≡ []) → IsTaken words
 unfolding faults_in
 parsed_taken a words is kinds = ap (λ x. fault_of x words) (sym is) ∙ kinds (ap is_simple_and_free is ∙ program_is_free)
@@ -87,7 +86,7 @@ parsed_fault a words error (Fault (Usage text)) is kinds tells = elim (parsed_ki
 
 -- ---- what the matches give
 
--- where the rows are filled, the matches hold images
+-- if the rows are filled, the matches hold images
 pub some_images : (f : Found) (o : Option (Bor (List (Bor Text)))) → option_map (λ s. texts s.now) o ≡ option_map raw_values
     (matched_of f (codes "image"))
     → IsFilled (rows_of f) → is_some o ≡ true
@@ -150,7 +149,7 @@ command_filled words name rows taken is =
     let rows_are : names.rows ≡ rows = ap (λ o. unwrap_or (option_map (λ (p : Text × List Row). p.1) o) rows) (sym names.is ∙ is) in
     subst IsFilled rows_are names.filled
 
--- and give the path of a socket, where the command is to listen at one
+-- and give the path of a socket, if the command is to listen at one
 pub command_gives : (words : List Text) (name : Text) (rows : List Row) (verb : Verb) → IsTaken words → command_in words ≡ Some (name, rows)
     → verb_word verb ≡ name → GivesSocket verb rows
 command_gives words name rows verb taken is named =
@@ -182,7 +181,7 @@ some_command m words taken is =
 
 -- ---- the line
 
--- the first of two, or else what comes after it, passes
+-- the first of two, or otherwise what comes after it, passes
 first_passes : (P : Number → Type 0) (m n : Number) (o : Option Number) (b : Bool) → P m → (o ≡ Some n → P n)
     → cond b (Some m) o ≡ Some n → P n
 first_passes P m n o true here later is = subst P (ap (λ o. unwrap_or o m) is) here
@@ -207,18 +206,18 @@ pub digests_are : (f : Found) (o : Option (Bor (List (Bor Text))))
     → option_map (λ s. texts s.now) o ≡ all_of (codes "digest") (rows_of f)
 digests_are f o are = are ∙ raw_values-rows f (codes "digest")
 
--- where none are given
+-- if none are given
 pub none_given : (count : ℕ) (given : Option (List Text)) → given ≡ None
     → (replicate count None ≡ digests_for count given) × AreDigests count given
 none_given count given is =
     (ap (λ o. digests_for count o) (sym is), subst (AreDigests count) (sym is) (record { named = tt; each = tt }))
 
--- where more or fewer are given than images
+-- if more or fewer are given than images
 pub miscounted : (count : ℕ) (given : Option (List Text)) (texts : List Text) → given ≡ Some texts → (length texts ≡ count → ⊥)
     → ¬ AreDigests count given
 miscounted count given texts is other are = other ((subst (AreDigests count) is are).each)
 
--- where as many are given as images, they are read
+-- if as many are given as images, they are read
 pub all_read : {X : Type 0} (items : X → List (Option Digest)) (count : ℕ) (given : Option (List Text)) (texts : List Text)
     (r : Result X LineFault) → given ≡ Some texts → length texts ≡ count
     → IfOk r (λ x. items x ≡ digests_named texts) → OnOk r (AreNamed texts)
@@ -247,12 +246,12 @@ some_named : (o : Option (Bor Text)) (p : Option Text) → option_map (λ file. 
 some_named None p e = ap (λ o. is_some o) e
 some_named (Some file) p e = ap (λ o. is_some o) e
 
--- the line names the socket's path where the rows give one
+-- the line names the socket's path if the rows give one
 pub names_socket : (verb : Verb) (rows : List Row) (listen : Option (Bor Text)) → GivesSocket verb rows
     → option_map (λ path. path.now) listen ≡ first_of (codes "listen") rows → verb ≡ verbs.Socket → is_some listen ≡ true
 names_socket verb rows listen gives listen_is is = some_named listen (first_of (codes "listen") rows) listen_is ∙ gives is
 
--- the line names a file beside the device where the rows do
+-- the line names a file beside the device if the rows do
 pub names_as : (rows : List Row) (line : Line) → Says line (parts_of line.verb rows) → names_both line ≡ names_both_of rows
 names_as rows line says =
     let parts = parts_of line.verb rows in
@@ -273,7 +272,7 @@ held rows line numbered digested says apart = record {
   says = says;
 }
 
--- and where it names one, the rows do
+-- and if it names one, the rows do
 pub rows_crossed : (rows : List Row) (line : Line) → Says line (parts_of line.verb rows) → names_both line ≡ true → AreCrossed rows
 rows_crossed rows line says both = sym (names_as rows line says) ∙ both
 

@@ -1,6 +1,5 @@
--- Words that are a command of the program name one of its commands, whose rows are filled:
--- `taken_names`. Each command is looked at by itself (`serve_filled` to `list_filled`), and then
--- which one is entered.
+-- Words that are a command of the program name one of its commands, whose rows are filled: `taken_names`. Each command is examined by
+-- itself (`serve_filled` to `list_filled`), and then which one is entered.
 use Rattle.std.proofs.Common.{◌≡◌, ◌||◌, ◌∙◌, Bool, cond, codes, true, false, refl, sym, List, [], ◌∷◌, Option, Some, None, is_some, true≢false, option_map}
 use Rattle.std.specs.List.{list_all, slice_index_or}
 use Rattle.std.specs.Option.{option_map_or}
@@ -48,7 +47,7 @@ leaf_rows s words kept fit plain e =
     let rows = settle_kept _ fills s kept fit end settle_on.0 held in
     (defaults_filled s.rules (settled s.rules end).rows plain rows, check_on.1)
 
--- are filled, where it wants an image
+-- are filled, if it requires an image
 leaf_filled : (s : Shape) (rows : List Row) → Wants (codes "image") s → (all_filled rows ≡ true) × (check_fault s rows false ≡ [])
     → IsFilled rows
 leaf_filled s rows wants e = rows_filled rows e.0 (wanted_given (codes "image") s rows wants e.1)
@@ -153,7 +152,7 @@ some_entered : (stop : Option (Text × List Text)) → stop_helps stop ≡ false
 some_entered None helps e some = absurd (true≢false (sym some))
 some_entered (Some p) helps e some = entered_names p helps e some
 
--- the program wants a command
+-- the program requires a command
 one_wanted : (rows : List Row) (has : Bool) → check_fault made.top rows has ≡ [] → has ≡ true
 one_wanted rows true e = refl
 one_wanted rows false e = cc

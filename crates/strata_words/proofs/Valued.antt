@@ -61,7 +61,7 @@ all_filled = list_all is_filled
 
 -- ---- a row more, or more values of a row
 
--- where there is no such row, one comes at the end
+-- if there is no such row, one comes at the end
 at_row_none : (id : Text) (change : Row → List Row) (missing rows : List Row) → has_row id rows ≡ false → at_row id change missing rows
     ≡ rows ++ missing
 at_row_none id change missing [] none = refl
@@ -253,7 +253,7 @@ found_filled id (r ∷ rest) filled = go (bytes_eq r.id id) refl (found_filled i
     go true same later = and_true _ _ same (both _ _ filled).0
     go false same later = later
 
--- a filled row with this id holds what the id asks: the truth of a flag, or else a value
+-- a filled row with this id holds what the id asks: the truth of a flag, or otherwise a value
 held_by : (id : Text) (r : Row) (b : Bool) → is_flag id ≡ b → (bytes_eq r.id id && is_filled r) ≡ true
     → cond b (is_as_written r.reading && is_only (bool_text (explicit_source r.source)) r.values) (some_text r.values) ≡ true
 held_by id r b flag passes =
@@ -280,7 +280,7 @@ first_value : (o : Option Row) (first : Text) (rest : List Text) → option_map 
 first_value None first rest e = ap (λ o. is_some o) e
 first_value (Some r) first rest e = ap (λ o. is_some (slice_get (unwrap_or o []) 0)) e
 
--- another option than a flag has a value, where it is given
+-- another option than a flag has a value, if it is given
 pub some_value : (id : Text) (rows : List Row) → is_flag id ≡ false → all_filled rows ≡ true → is_given id rows ≡ true
     → is_some (first_of id rows) ≡ true
 some_value id rows other filled given =
@@ -304,7 +304,7 @@ flag_text id flag (Some r) passes = text r.reading r.values (explicit_source r.s
     text reading.AsWritten (v ∷ w ∷ ws) given e = absurd (true≢false (sym e))
     text _ vs given e = absurd (true≢false (sym e))
 
--- rows that are filled, where an image is given
+-- rows that are filled, if an image is given
 pub rows_filled : (rows : List Row) → all_filled rows ≡ true → is_given (codes "image") rows ≡ true → IsFilled rows
 rows_filled rows filled given =
     let image = given_value (codes "image") refl (find (λ r. bytes_eq r.id (codes "image")) rows) (found_filled (codes "image") rows filled)

@@ -1,6 +1,5 @@
--- What a walk over the words of a command keeps, where none of them is at fault. The main lemmas
--- are `walk_kept`, of a test on its rows, and `walk_no_help`, that none of the words names the
--- command `help`; each goes step by step as the walk does.
+-- What a walk over the words of a command keeps, if none of them is at fault. The main lemmas are `walk_kept`, about a test on its rows,
+-- and `walk_no_help`, that none of the words names the command `help`; each proceeds step by step as the walk does.
 use Rattle.std.proofs.Common.{◌≡◌, ◌&&◌, ℕ, Bool, cond, codes, true, false, not, zero, suc, refl, ap, List, [], ◌∷◌, ◌∙◌, length, Option, Some, None, is_some}
 use Rattle.std.specs.Prelude.{slice_get}
 use Rattle.std.specs.List.{find, fold, list_all}

@@ -59,7 +59,7 @@ number_passed most text e =
       ),
     )
 
--- the same, where there is a text
+-- the same, if there is a text
 abbrev passes : ℕ → Option Text → Bool
 passes most None = true
 passes most (Some text) = is_number most text

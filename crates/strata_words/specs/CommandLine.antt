@@ -38,23 +38,23 @@ use Rattle.stack_model.specs.declared.owner.Owner.{Owner}
 
 -- ---- the program
 
--- an option with one value, as `--workers N` or `--requests FILE`
+-- an option with one value, such as `--workers N` or `--requests FILE`
 abbrev pub value_option : Text → Rule
 value_option name = record (new_rule name) { long = Some name; value_names = 1 }
 
--- one that is not left out, as `--listen PATH`
+-- one that is required, such as `--listen PATH`
 abbrev pub wanted_option : Text → Rule
 wanted_option name = record (value_option name) { required = true }
 
--- one that may be given again, as `--digest DIGEST`
+-- one that may be repeated, such as `--digest DIGEST`
 abbrev pub repeated_option : Text → Rule
 repeated_option name = record (value_option name) { action = Some Append }
 
--- an option without a value, as `--strict`
+-- an option without a value, such as `--strict`
 abbrev pub flag : Text → Rule
 flag name = record (new_rule name) { long = Some name; action = Some SetTrue }
 
--- arguments of this name, one or more
+-- arguments with this name, one or more
 abbrev pub words : Text → Rule
 words name = record (new_rule name) {
   value_names = 1;
@@ -63,7 +63,7 @@ words name = record (new_rule name) {
   action = Some Append;
 }
 
--- an argument of a command, as `clap` takes it
+-- an argument of a command, in the form of `clap`
 abbrev pub rule_for : Argument → Rule
 rule_for argument = elim argument.form [
   | forms.Flag ↦ flag argument.name.now
@@ -73,21 +73,21 @@ rule_for argument = elim argument.form [
   | forms.Words value ↦ words argument.name.now
 ]
 
--- the command of this name, with these options and arguments
+-- the command with this name, and these options and arguments
 abbrev pub command_with : Text → List Rule → App
 command_with name rules = on_top (λ s. record s { rules = rules }) (new_app name)
 
--- how requests are shared out
+-- how requests are divided among workers
 abbrev pub plan_options : List Rule
 plan_options = value_option (codes "workers") ∷ value_option (codes "batch") ∷ []
 
--- the images, and how they are taken
+-- the images, and how they are read
 abbrev pub images : List Rule
 images = flag (codes "strict") ∷ flag (codes "attributes") ∷ flag (codes "whole")
     ∷ repeated_option (codes "digest") ∷ words (codes "image") ∷ []
 
 -- the served images, what the client learns about them, the owner of their files, and whether they
--- stay in theirs
+-- stay in their files
 abbrev pub served_images : List Rule
 served_images = flag (codes "lasting") ∷ value_option (codes "owner") ∷ flag (codes "in-files")
     ∷ images
@@ -104,7 +104,7 @@ abbrev pub socket_command : App
 socket_command = command_with (codes "socket") (plan_options ++ (
     wanted_option (codes "listen") ∷ value_option (codes "sessions") ∷ served_images))
 
--- a command over images, as `check` and `list`: it can accept them as a mount does
+-- a command over images, such as `check` and `list`: it can accept them as a mount does
 abbrev pub images_command : Text → App
 images_command name = command_with name (flag (codes "as-mounted") ∷ images)
 
@@ -136,7 +136,7 @@ command_in words = subcommand_of program words
 abbrev pub IsTaken : List Text → Type 0
 IsTaken words = faults_in words ≡ []
 
--- the arguments are refused for this: `clap` may answer so
+-- the arguments are refused for this: `clap` may return it
 abbrev pub IsRefusedFor : ErrorKind → List Text → Type 0
 IsRefusedFor why words = IsAmong why (faults_in words)
 
@@ -153,7 +153,7 @@ pub record IsRefused (words : List Text) : Type 0 where
 
 -- ---- numbers
 
--- the text is a decimal number from 1 to `most`, in digits alone
+-- the text is a decimal number from 1 to `most`, only digits
 abbrev pub IsNumberTo : ℕ → Text → Type 0
 IsNumberTo most text = IsNumeral 10 text × IsInRange 1 most (digits_value 10 text)
 
@@ -161,7 +161,7 @@ IsNumberTo most text = IsNumeral 10 text × IsInRange 1 most (digits_value 10 te
 abbrev pub number_or : ℕ → Option Text → ℕ
 number_or default text = option_map_or (digits_value 10) text default
 
--- the number of an option: what it is given, from 1 to `most`, or else the default
+-- the number of an option: the given one, from 1 to `most`, or otherwise the default
 pub record IsNumberOf (most default : ℕ) (given : Option Text) (number : ℕ) : Type 0 where
   pub numbered : IfSome given (IsNumberTo most)
   pub value : number ≡ number_or default given
@@ -179,27 +179,27 @@ numbers = record { name = codes "workers"; most = MAX_WORKERS; default = 4 }
     ∷ record { name = codes "readers"; most = MAX_READERS; default = 1 }
     ∷ record { name = codes "sessions"; most = MAX_SESSIONS; default = 1 } ∷ []
 
--- the one of this name
+-- the one with this name
 abbrev pub number_named : Text → Option Number
 number_named name = find (λ number. bytes_eq number.name name) numbers
 
--- the option of this name says a number from 1 to `most`, or else the default
+-- the option with this name has a number from 1 to `most`, or otherwise the default
 abbrev pub IsNumberNamed : Text → ℕ → ℕ → Type 0
 IsNumberNamed name most default =
     number_named name ≡ Some (record { name = name; most = most; default = default })
 
--- the numbers that the rows of a command give are numbers in their ranges, those of an owner too
+-- the numbers in the rows of a command are in their ranges, those of an owner too
 pub record HaveNumbersInRange (rows : List Row) : Type 0 where
   pub each : All (λ number. IfSome (first_of number.name rows) (IsNumberTo number.most)) numbers
   pub owner : IfSome (first_of (codes "owner") rows) IsOwner
 
 -- ---- images and their digests
 
--- the images that the rows of a command give
+-- the images in the rows of a command
 abbrev pub images_in : List Row → List Text
 images_in rows = unwrap_or (all_of (codes "image") rows) []
 
--- the digests that the rows give are one for each image, or none at all
+-- the digests in the rows are one for each image, or none at all
 abbrev pub HaveDigests : List Row → Type 0
 HaveDigests rows = AreDigests (length (images_in rows)) (all_of (codes "digest") rows)
 
@@ -238,13 +238,13 @@ pub record LineParts : Type 0 where
   pub images : List Text
   pub digests : List (Option Digest)
 
--- the number of this name that the rows of a command give, or else its default
+-- the number with this name in the rows of a command, or otherwise its default
 abbrev pub number_in : Text → List Row → ℕ
 number_in name rows =
     number_or (option_map_or (λ number. number.default) (number_named name) 0) (first_of name rows)
 
--- what the rows of a command give: whether there is each flag, the first value of each option or
--- else its default, and all images in order
+-- the content of the rows of a command: whether each flag is given, the first value of each option
+-- or otherwise its default, and all images in order
 abbrev pub parts_of : Verb → List Row → LineParts
 parts_of verb rows = record {
   verb = verb;
@@ -296,12 +296,12 @@ parts_in line = record {
 abbrev pub Says : Line → LineParts → Type 0
 Says line parts = parts_in line ≡ parts
 
--- a line has the device, and names a file in place of one of its ends or for the balances
+-- a line has the device, and names a file instead of one of its ends or for the balances
 abbrev pub names_both : Line → Bool
 names_both line =
     line.device && (is_some line.requests || (is_some line.replies || is_some line.balances))
 
--- the rows of a command do
+-- the same for the rows of a command
 abbrev pub names_both_of : List Row → Bool
 names_both_of rows = is_given (codes "device") rows
     && (is_some (first_of (codes "requests") rows) || (is_some (first_of (codes "replies") rows)
@@ -311,8 +311,8 @@ names_both_of rows = is_given (codes "device") rows
 abbrev pub AreCrossed : List Row → Type 0
 AreCrossed rows = names_both_of rows ≡ true
 
--- the line has what the rows of a command give, whose numbers are in range, which have a digest for
--- each image or none at all, and which name no file beside the device
+-- the line has what the rows of a command give; their numbers are in range, there is a digest for
+-- each image or none at all, and no file is named beside the device
 pub record HoldsRows (rows : List Row) (line : Line) : Type 0 where
   pub numbered : HaveNumbersInRange rows
   pub digested : HaveDigests rows
@@ -338,11 +338,11 @@ pub record IsInLimits (line : Line) : Type 0 where
 abbrev pub NamesSocket : Line → Type 0
 NamesSocket line = line.verb ≡ verbs.Socket → is_some line.listen ≡ true
 
--- the rows of the command `socket` give it
+-- the rows of the command `socket` have it
 abbrev pub GivesSocket : Verb → List Row → Type 0
 GivesSocket verb rows = verb ≡ verbs.Socket → is_some (first_of (codes "listen") rows) ≡ true
 
--- a line of a command of this verb, which says what its rows give
+-- a line of a command with this verb, which says what its rows give
 pub record IsReadFrom (verb : Verb) (rows : List Row) (line : Line) : Type 0 where
   pub same : line.verb ≡ verb
   pub holds : HoldsRows rows line
@@ -393,7 +393,7 @@ TellsKind why Version = why ≡ kinds.DisplayVersion
 TellsKind why (Fault Memory) = Unit {0}
 TellsKind why (Fault (Usage text)) = (why ≢ kinds.OutOfMemory) × (why ≢ kinds.DisplayVersion)
 
--- the flag of this name reads as whether it is given
+-- the flag with this name reads as whether it is given
 abbrev pub IsFlagFilled : Text → List Row → Type 0
 IsFlagFilled id rows = MatchOption (one_of id rows) (is_given id rows ≡ false)
     (λ text. text ≡ bool_text (is_given id rows))
@@ -403,7 +403,7 @@ abbrev pub flags : List Text
 flags = codes "strict" ∷ codes "attributes" ∷ codes "as-mounted" ∷ codes "whole"
     ∷ codes "in-files" ∷ codes "device" ∷ codes "lasting" ∷ []
 
--- the option of this name is one of them
+-- the option with this name is one of them
 abbrev pub is_flag : Text → Bool
 is_flag id = list_any (bytes_eq id) flags
 

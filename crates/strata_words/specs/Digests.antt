@@ -1,4 +1,4 @@
--- Digests of images, as the command line says them: what `fsverity digest` prints, or `-`.
+-- Digests of images on the command line: what `fsverity digest` prints, or `-`.
 use Rattle.std.specs.Prelude.{◌≡◌, ◌==◌, ℕ, true, List, Option, Some, None, IfSome, is_some, length, map, option_map, replicate, unwrap_or, codes, if◌then◌else◌}
 use Rattle.std.specs.List.{All, after_first, before_first}
 use Rattle.std.specs.Option.{option_map_or}
@@ -13,7 +13,7 @@ use Rattle.romfs_seal.specs.declared.digest.Digest.TheVariants.{Short, Long}
 abbrev pub algorithm_in : Text → Text
 algorithm_in = before_first (λ c. c == 58)
 
--- and behind it, the hex digits
+-- and after it, the hex digits
 abbrev pub digits_in : Text → Text
 digits_in = after_first (λ c. c == 58)
 
@@ -30,8 +30,7 @@ digest_of algorithm digits =
 abbrev pub digest_in : Text → Option Digest
 digest_in text = digest_of (algorithm_in text) (digits_in text)
 
--- what a text says of an image, if it says anything: `-` that it is read under no digest; or its
--- digest
+-- what a text says about an image, if anything: `-`, no digest; or its digest
 abbrev pub named_in : Text → Option (Option Digest)
 named_in text = if bytes_eq text (codes "-") then Some None else option_map Some (digest_in text)
 
@@ -43,11 +42,11 @@ AreNamed texts = All (λ text. is_some (named_in text) ≡ true) texts
 abbrev pub digests_named : List Text → List (Option Digest)
 digests_named texts = map (λ text. unwrap_or (named_in text) None) texts
 
--- the digests that are given for so many images are one for each, or none at all
+-- the digests given for this many images are one for each, or none at all
 pub record AreDigests (count : ℕ) (given : Option (List Text)) : Type 0 where
   pub named : IfSome given AreNamed
   pub each : IfSome given (λ texts. length texts ≡ count)
 
--- the digest of each of so many images, in their order
+-- the digest of each of this many images, in their order
 abbrev pub digests_for : ℕ → Option (List Text) → List (Option Digest)
 digests_for count given = option_map_or digests_named given (replicate count None)

@@ -1,4 +1,4 @@
--- Worked examples: command lines, and what they say or why they are refused.
+-- Worked examples: command lines, and what they mean or why they are refused.
 use Rattle.std.specs.Prelude.{◌≡◌, ◌==◌, if◌then◌else◌, true, false, codes}
 use Rattle.std.specs.Prelude.{List, [], ◌∷◌, ◌++◌, Some, None, map, replicate}
 use Rattle.clap.specs.Walk.{Text}
@@ -10,7 +10,7 @@ use Rattle.strata_words.specs.declared.options.Verb.TheVariants as verbs
 use Rattle.romfs_seal.specs.declared.digest.Digest.TheVariants.{Short, Long}
 use Rattle.strata_words.specs.CommandLine.{IsCrossed, IsLineOf, IsMisnumbered, IsMissealed, IsTaken, LineParts, Says, faults_in}
 
--- the words of a text, after those of which this is the last so far, cut at each blank
+-- the words of a text, cut at each blank, after the characters of the current word so far
 abbrev pub cut : Text → Text → List Text
 cut word [] = word ∷ []
 cut word (c ∷ cs) = if c == 32 then word ∷ cut [] cs else cut (word ++ c ∷ []) cs
@@ -19,7 +19,7 @@ cut word (c ∷ cs) = if c == 32 then word ∷ cut [] cs else cut (word ++ c ∷
 abbrev pub words_of : Text → List Text
 words_of = cut []
 
--- a line with no option
+-- a line without options
 abbrev pub plain : Verb → Text → LineParts
 plain verb images = record {
   verb = verb;
@@ -56,13 +56,13 @@ pub record ReadsAs (text : Text) (parts : LineParts) : Type 0 where
   pub sealed : ¬ IsMissealed (words_of text)
   pub says : (line : Line) → IsLineOf (words_of text) line → Says line parts
 
--- each option of `serve` but the device
+-- each option of `serve` except the device
 abbrev pub every_option : Text
 every_option =
     codes "serve --workers 2 --batch 3 --requests q --replies r --balances b --readers 6"
     ++ codes " --owner 7:8 --attributes --strict --whole --in-files --lasting f"
 
--- words that are a command, and their meaning
+-- arguments that are a command, and their meaning
 pub record TakenLines : Type 0 where
   pub check_one : ReadsAs (codes "check e.img") (plain verbs.Check (codes "e.img"))
   pub check_two : ReadsAs (codes "check b a") (plain verbs.Check (codes "b a"))
@@ -165,12 +165,12 @@ pub record TakenLines : Type 0 where
       (at_socket (codes "s") (codes "f g"))
   pub image_like_a_verb : ReadsAs (codes "list check") (plain verbs.List (codes "check"))
 
--- the words are no command, for this alone
+-- the arguments are no command, for this reason alone
 abbrev pub HasOneFault : Text → ErrorKind → Type 0
 HasOneFault text why = faults_in (words_of text) ≡ why ∷ []
 
--- words that are no command, and why: `DisplayVersion` if they ask for the version; or words of a
--- command that names a file beside the device
+-- arguments that are no command, and why: `DisplayVersion` if they ask for the version; or
+-- arguments of a command that names a file beside the device
 pub record RefusedLines : Type 0 where
   pub no_words : faults_in [] ≡ kind.MissingSubcommand ∷ []
   pub asks_version : HasOneFault (codes "--version") kind.DisplayVersion
@@ -215,7 +215,7 @@ pub record RefusedLines : Type 0 where
   pub owner_of_list : HasOneFault (codes "list --owner 1:1 a") kind.UnknownArgument
   pub minus_apart : HasOneFault (codes "serve --workers -4 a") kind.UnknownArgument
 
--- words that are a command but for a number
+-- arguments that would be a command without a malformed number
 pub record MisnumberedLines : Type 0 where
   pub no_workers : IsMisnumbered (words_of (codes "serve --workers 0 a"))
   pub many_workers : IsMisnumbered (words_of (codes "serve --workers 65 a"))
@@ -241,7 +241,7 @@ pub record MisnumberedLines : Type 0 where
   pub large_user : IsMisnumbered (words_of (codes "serve --owner 4294967296:0 a"))
   pub large_group : IsMisnumbered (words_of (codes "socket --listen s --owner 0:4294967296 a"))
 
--- words that are a command but for a digest
+-- arguments that would be a command without a malformed digest
 pub record MissealedLines : Type 0 where
   pub one_for_two : IsMissealed (words_of (codes "check --digest - f g"))
   pub two_for_one : IsMissealed (words_of (codes "list --digest - --digest - f"))

@@ -14,7 +14,7 @@ pub record LinesAgree : Type 0 where
   pub both_say : (words : List Text) (a b : Line) → IsLineOf words a → IsLineOf words b
       → (parts : LineParts) × Says a parts × Says b parts
 
--- arguments that have a line meet no fault but lack of memory, and do not ask for the version
+-- arguments with a line meet no fault but lack of memory, and do not ask for the version
 pub record LinesAreFaultless : Type 0 where
   pub only_memory : (words : List Text) (line : Line) (fault : NoLine) → IsLineOf words line
       → IsNoLine words fault → fault ≡ Fault Memory

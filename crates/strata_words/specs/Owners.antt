@@ -1,4 +1,4 @@
--- Whom nodes belong to, as the command line says it: two numbers joined by a colon.
+-- The owner of nodes on the command line: two numbers joined by a colon.
 use Rattle.std.specs.Prelude.{◌≡◌, ◌<◌, ◌^◌, ◌==◌, Option, IfSome}
 use Rattle.std.specs.List.{after_first, before_first}
 use Rattle.std.specs.Option.{option_map_or}
@@ -6,7 +6,7 @@ use Rattle.std.specs.Str.Parse.{IsNumeral, digits_value}
 use Rattle.clap.specs.Walk.{Text}
 use Rattle.stack_model.specs.declared.owner.Owner.{Owner}
 
--- the text is a decimal number below 2 ^ 32, in digits alone
+-- the text is a decimal number below 2 ^ 32, only digits
 abbrev pub IsId : Text → Type 0
 IsId text = IsNumeral 10 text × (digits_value 10 text < 2 ^ 32)
 
@@ -14,7 +14,7 @@ IsId text = IsNumeral 10 text × (digits_value 10 text < 2 ^ 32)
 abbrev pub user_in : Text → Text
 user_in = before_first (λ c. c == 58)
 
--- and behind it
+-- and after it
 abbrev pub group_in : Text → Text
 group_in = after_first (λ c. c == 58)
 
@@ -31,7 +31,7 @@ owner_in text =
 abbrev pub owner_or_root : Option Text → Owner
 owner_or_root text = option_map_or owner_in text (record { uid = 0; gid = 0 })
 
--- the owner of an option: what it is given, or else user and group 0
+-- the owner of an option: the given one, or otherwise user and group 0
 pub record IsOwnerOf (given : Option Text) (owner : Owner) : Type 0 where
   pub numbered : IfSome given IsOwner
   pub value : owner ≡ owner_or_root given

@@ -1,4 +1,4 @@
-//! The commands of the program with their options and arguments, as `clap` takes them.
+//! The commands of the program with their options and arguments, for `clap`.
 //!
 //! Functions that add a command take and return the program as a `Result`, so refused memory is
 //! handled once, at the end.
@@ -30,9 +30,9 @@ pub(crate) enum Form {
     Value(&'static str),
     /// A required option with one value.
     WantedValue(&'static str),
-    /// An option with one value that may be given again.
+    /// An option with one value that may be repeated.
     Values(&'static str),
-    /// One argument or more.
+    /// One or more arguments.
     Words(&'static str),
 }
 

@@ -14,7 +14,7 @@ use hex::FromHex;
 use romfs_seal::Digest;
 use std::alloc::{AllocError, Global};
 
-/// What each of these texts says of an image: its digest, or `None`.
+/// What each of these texts says about an image: its digest, or `None`.
 pub(crate) fn digests_named(alloc: Global, given: &[&str]) -> Result<Vec<Option<Digest>>, LineFault>
     ensures ok { IfOk result (λ digests. digests.items ≡ digests_named (texts given.now)) }
     ensures named { OnOk result (AreNamed (texts given.now)) }
@@ -30,7 +30,7 @@ pub(crate) fn digests_named(alloc: Global, given: &[&str]) -> Result<Vec<Option<
     Ok(digests)
 }
 
-/// No digest for each of so many images.
+/// No digest for any of this many images.
 pub(crate) fn no_digests(alloc: Global, count: usize) -> Result<Vec<Option<Digest>>, AllocError>
     ensures { IfOk result (λ digests. digests.items ≡ replicate count None) }
 {
@@ -41,7 +41,7 @@ pub(crate) fn no_digests(alloc: Global, count: usize) -> Result<Vec<Option<Diges
     Ok(digests)
 }
 
-// What a text says of an image: `-` that it is read under no digest; else its digest.
+// What a text says about an image: `-` means without a digest; anything else is its digest.
 fn named_in(text: &str) -> Option<Option<Digest>>
     ensures { result ≡ named_in text.now }
 {
@@ -84,7 +84,7 @@ fn long(digits: &str) -> Option<Digest>
     Some(Digest::Long(bytes))
 }
 
-// The fault for a text that is no digest, in the form of `clap`.
+// The fault for a text that is not a digest, in the form of `clap`.
 fn no_digest(alloc: Global, text: &str) -> Result<LineFault, AllocError> {
     let text = format!(in alloc;
         "error: invalid value '{text}' for '--digest <DIGEST>': not 'sha256:' before 64 hex \

@@ -8,13 +8,13 @@ pub fn lines_agree()
     ensures { LinesAgree }
 {}
 
-/// Words that have a line meet no fault but lack of memory, and do not ask for the version.
+/// Arguments with a line meet no fault but lack of memory, and do not ask for the version.
 #[tactic(auto, using(crate::proofs::Agreed::lines_are_faultless))]
 pub fn lines_are_faultless()
     ensures { LinesAreFaultless }
 {}
 
-/// Words that ask for the version alone meet no fault but lack of memory.
+/// Arguments that ask only for the version meet no fault but lack of memory.
 #[tactic(auto, using(crate::proofs::Agreed::version_is_faultless))]
 pub fn version_is_faultless()
     ensures { VersionIsFaultless }

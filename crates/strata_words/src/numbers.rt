@@ -7,7 +7,7 @@ ghost use Rattle.strata_words.specs.Owners.{IsId, IsOwner, owner_in};
 
 use stack_model::Owner;
 
-/// The number in a text of digits alone, if it is from 1 to `most`.
+/// The number in a text of only digits, if it is from 1 to `most`.
 pub(crate) fn number_to(text: &str, most: u32) -> Option<u32>
     ensures some { IfSome result (λ number.
         IsNumberTo most text.now × (number ≡ digits_value 10 text.now)) }
@@ -31,7 +31,7 @@ pub(crate) fn owner_in(text: &str) -> Option<Owner>
     Some(Owner { uid, gid })
 }
 
-// The number in a text of digits alone, if it is below 2^32.
+// The number in a text of only digits, if it is below 2^32.
 fn id_in(text: &str) -> Option<u32>
     ensures some { IfSome result (λ id. IsId text.now × (id ≡ digits_value 10 text.now)) }
     ensures none { result ≡ None → ¬ IsId text.now }

@@ -14,16 +14,16 @@ pub const MAX_SESSIONS: u32 = 65_535;
 /// The most readers of one open `/dev/fuse`.
 pub const MAX_READERS: u32 = 64;
 
-/// What the program is asked to do.
+/// What the program should do.
 #[derive(Clone, Copy, PartialEq, Eq)]
 pub enum Verb {
-    /// To answer a stream of requests over the images.
+    /// Answer a stream of requests over the images.
     Serve,
-    /// To answer the clients of a socket, one after another.
+    /// Answer the clients of a socket, one after another.
     Socket,
-    /// To check the images.
+    /// Check the images.
     Check,
-    /// To list the visible paths of the stacked images.
+    /// List the visible paths of the stacked images.
     List,
 }
 
@@ -68,8 +68,7 @@ pub struct Line<'a> {
     pub owner: Owner,
     /// The files of the images, one or more, lowest layer first.
     pub images: Vec<&'a str>,
-    /// The fs-verity digest of each image, in their order; `None` for an image that is read under
-    /// none.
+    /// The fs-verity digest of each image, in their order; `None` for an image without one.
     pub digests: Vec<Option<Digest>>,
 }
 

@@ -50,10 +50,10 @@ pub fn words<R: Env + AllocGlobal>(rt: &R) -> Result<Vec<String>, LineFault> {
 }
 
 /// Reads the arguments after the program's name: the line has their verb, the flags, the first
-/// value of each option or its default, and all images in order. A number is decimal, in digits
-/// alone, from 1 to 64 (`--workers`, `--readers`), 256 (`--batch`) or 65,535 (`--sessions`), and an
-/// owner is two numbers below 2^32 joined by a colon. The digests are one for each image in their
-/// order, or none: `sha256:` before 64 hex digits, `sha512:` before 128, or `-` for an image
+/// value of each option or its default, and all images in order. A number is decimal, only digits,
+/// from 1 to 64 (`--workers`, `--readers`), 256 (`--batch`) or 65,535 (`--sessions`), and an owner
+/// is two numbers below 2^32 joined by a colon. There is one digest for each image in their order,
+/// or none at all: `sha256:` before 64 hex digits, `sha512:` before 128, or `-` for an image
 /// without a digest. For `socket` the line has the path of the socket.
 ///
 /// Arguments that ask for the version give `Version`. `Usage` means that the arguments are no
@@ -170,7 +170,7 @@ fn images<'a>(alloc: Global, found: &ArgMatches<'a>) -> Result<Vec<&'a str>, All
     Ok(images)
 }
 
-// The digests of so many images, one for each or none at all.
+// The digests for this many images, one for each or none at all.
 fn digests(
     alloc: Global,
     found: &ArgMatches<'_>,
@@ -190,7 +190,7 @@ fn digests(
     }
 }
 
-// The option of a file that is given beside the device, if there is one.
+// The option of a file that is named beside the device, if there is one.
 fn named_beside_device(line: &Line<'_>) -> Option<&'static str>
     ensures { is_some result ≡ names_both line.now }
 {
@@ -232,7 +232,7 @@ fn number(
     }
 }
 
-// The owner given, or else user and group 0.
+// The given owner, or user and group 0.
 fn owner(alloc: Global, found: &ArgMatches<'_>) -> Result<Owner, LineFault>
     ensures ok { IfOk result (λ owner.
         IsOwnerOf (first_of (codes "owner") (rows_in found.now)) owner) }

@@ -1,5 +1,5 @@
--- A `Refusing` behind the `&self` of a method, over an inner allocator whose row is A, and where
--- its fields lie: the inner allocator first, and the tally behind it at the next multiple of 8.
+-- A `Refusing` behind the `&self` of a method, over an inner allocator whose row is A, and the places of its fields: the inner allocator
+-- first, and the tally after it at the next multiple of 8.
 use Rattle.std.proofs.Common.{ℕ, ◌+◌, [], ◌∷◌}
 use Rattle.test_kit.specs.contracts.refusing.Refusing.{the_row}
 use prog.Memory.{size, align, up}

@@ -1,4 +1,4 @@
--- Images that are held whole, one after another.
+-- Images that are held in full, one after another.
 use Rattle.std.proofs.Common.{◌≡◌, ◌&&◌, ◌∙◌, Bool, true, refl, List, [], ◌∷◌, ◌++◌}
 use Rattle.std.proofs.lemmas.List.Folds.{list_all-append}
 use Rattle.romfs_reader.specs.Images.{HeldBytes, all_whole}

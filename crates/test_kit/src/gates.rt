@@ -1,7 +1,7 @@
-//! Gates that tests hold work at, or count it by.
+//! Gates at which tests hold work, or count it.
 //!
-//! A gate is shared by the threads that pass it, so no contract can say what its counts hold. The
-//! tests look at them when all threads have ended.
+//! A gate is shared by the threads that pass it, so no contract can say what its counts are. The
+//! tests look at them after all threads have ended.
 
 use crate::refusing::Refusing;
 use draw_board::{Gate, Work, forks};
@@ -15,7 +15,7 @@ pub const MANY: u32 = 1 << 30;
 /// Turns of a gate that will be given up.
 pub const FEW: u32 = 1 << 20;
 
-/// Counts how often each piece of work is begun: the piece of number k in the digit k of a
+/// Counts how often each piece of work is begun: the piece with number k in digit k of a
 /// hexadecimal number, those of 15 and more in the last one.
 #[derive(Drop)]
 pub struct Recording {
@@ -36,7 +36,7 @@ impl Gate for Recording {
 }
 
 impl Recording {
-    /// Nothing was begun yet.
+    /// No work has begun yet.
     pub fn new() -> Self {
         Self {
             checks: AtomicU64::new(0),
@@ -56,7 +56,7 @@ impl Recording {
 }
 
 /// Holds some pieces of one kind of work until others have come, for at most this many turns. Piece
-/// k has the bit k; those from 64 on pass.
+/// k has bit k; those from 64 on pass.
 #[derive(Drop)]
 pub struct Holding {
     work: Work,
@@ -107,7 +107,7 @@ impl Holding {
     }
 }
 
-/// How many parts of a long list of layers are worked on at the same time.
+/// How many parts of a long list of layers are processed at the same time.
 pub fn parts_of_layers<R: Threads>(rt: &R) -> u64 {
     1 << forks(rt)
 }
@@ -137,7 +137,7 @@ impl Gate for Crowd {
 }
 
 impl Crowd {
-    /// Nothing of this work is under way yet. This many parts are to be at one time.
+    /// No piece of this work is under way yet. This many parts should be at one time.
     pub fn new(work: Work, parts: u64) -> Self {
         Self {
             work,
@@ -148,7 +148,7 @@ impl Crowd {
         }
     }
 
-    /// How many pieces were begun, and how many were under way at one time at the most.
+    /// How many pieces were begun, and the most that were under way at one time.
     pub fn seen(&self) -> (u64, u64) {
         (
             self.begun.load(Ordering::SeqCst),
@@ -179,7 +179,7 @@ impl Gate for Noting<'_> {
 }
 
 impl<'a> Noting<'a> {
-    /// Nothing was begun yet.
+    /// No work has begun yet.
     pub fn new(memory: &'a Refusing<Global>) -> Self {
         Self {
             memory,
@@ -187,7 +187,7 @@ impl<'a> Noting<'a> {
         }
     }
 
-    /// How many there were; the largest number if no work was begun.
+    /// How many there were; the largest number if no work began.
     pub fn before(&self) -> u64 {
         self.before.load(Ordering::SeqCst)
     }

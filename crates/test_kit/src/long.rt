@@ -25,7 +25,8 @@ pub enum Long {
     /// READDIR of the directory, a page from its first row on: 512 rows of 32 bytes. Its rounds are
     /// worth workers.
     Readdir,
-    /// READDIR of all of the directory: 4,002 rows. So are its rounds, from 13 messages on.
+    /// READDIR of the entire directory: 4,002 rows. Its rounds are worth workers, too, from 13
+    /// messages on.
     All,
 }
 

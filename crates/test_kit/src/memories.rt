@@ -1,4 +1,4 @@
-//! The memories of a call, and the refusing of each of its requests in turn.
+//! The memories of a call, and a call repeated with each of its requests refused in turn.
 
 use crate::refusing::Refusing;
 use std::alloc::Global;
@@ -29,8 +29,8 @@ impl Memories {
 }
 
 /// Makes a call with its first request for memory refused, then with the second, and so on, until
-/// it makes fewer requests than that. The call says whether its result was right. Returns how many
-/// requests it makes, or else the number of the first whose refusal gave another result.
+/// it makes fewer requests than that. The call returns whether its result was right. Returns how
+/// many requests it makes, or otherwise the number of the first whose refusal gave another result.
 pub fn refuse_in_turn<F: FnMut(&Memories) -> bool>(global: Global, mut call: F) -> Result<u64, u64>
     requires { F.IsAlwaysCallable call }
 {

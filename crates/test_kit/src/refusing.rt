@@ -1,9 +1,9 @@
 //! An allocator for tests that refuses one request for memory and counts all of them.
 //!
-//! Proved: each block that is handed out is one of the inner allocator's, `new` keeps what it is
-//! given, requests are numbered from 1, and no count wraps. The count is in a word that threads
-//! share, whose value no contract can give. That only the request with the given number is refused
-//! is therefore tested, not proved.
+//! Proved: each block that is handed out is from the inner allocator, `new` keeps its arguments,
+//! requests are numbered from 1, and no count wraps. The count is in a word that threads share,
+//! whose value no contract can state. That only the request with the given number is refused is
+//! therefore tested, not proved.
 //!
 //! It relies on the inner allocator's contract and on std's atomic words. The proofs by hand are
 //! those of `allocate` and `deallocate`, since they pass on the ownership of memory.
@@ -27,8 +27,8 @@ pub struct Refusing<A> {
 }
 
 impl<A> Refusing<A> {
-    /// Refuses the request with the number `refuse_at`, counted from 1 over all threads, or none at
-    /// 0. All others reach `inner`.
+    /// Refuses the request with the number `refuse_at`, counted from 1 over all threads; 0 refuses
+    /// none. All others reach `inner`.
     pub fn new(inner: A, refuse_at: u64) -> Self
         ensures inner { result.inner ≡ inner }
         ensures refuse_at { result.tally.refuse_at ≡ refuse_at }
@@ -39,14 +39,14 @@ impl<A> Refusing<A> {
         }
     }
 
-    /// How many requests came up to now, the refused one and those that failed in `inner` included.
-    /// The count stays at `u64::MAX` once it is there, and requests after that have no number and
-    /// are never refused.
+    /// How many requests were made so far, including the refused one and those that failed in
+    /// `inner`. The count stays at `u64::MAX` once it is there, and requests after that have no
+    /// number and are never refused.
     pub fn requests(&self) -> u64 {
         self.tally.count()
     }
 
-    /// Whether the request to be refused has come up to now.
+    /// Whether the request to be refused has been made.
     pub fn refused(&self) -> bool
         ensures never_at_zero { self.now.tally.refuse_at ≡ 0 → IsFalse result }
     {
@@ -54,7 +54,8 @@ impl<A> Refusing<A> {
     }
 }
 
-// Each request comes by `allocate`: the trait's `grow` and `shrink` ask for a new block there.
+// Each request is made with `allocate`: the trait's `grow` and `shrink` allocate a new block with
+// it.
 unsafe impl<A: Allocator> Allocator for Refusing<A> {
     ghost dealloc_token = { λ refusing ty ptr. A.dealloc_token refusing.inner ty ptr };
 
@@ -70,7 +71,7 @@ unsafe impl<A: Allocator> Allocator for Refusing<A> {
     }
 }
 
-// The number of the request to refuse, and how many came.
+// The number of the request to refuse, and how many were made.
 #[derive(Drop)]
 struct Tally {
     refuse_at: u64,
@@ -106,7 +107,7 @@ impl Tally {
         }
     }
 
-    // Counts a request, and says whether it is the one to refuse.
+    // Counts a request, and returns whether it is the one to refuse.
     fn refuses_next(&self) -> bool
         ensures never_at_zero { self.now.refuse_at ≡ 0 → IsFalse result }
     {

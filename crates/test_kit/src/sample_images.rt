@@ -21,10 +21,10 @@ pub fn empty(alloc: Global) -> Result<Vec<u8>, AllocError> {
 
 /// An image with an item for each word, in walk order: a digit for the depth, a sign, and the name.
 ///
-/// The sign is `/` for a directory and `*` for an executable one, `-` for a file of the bytes `hi`
-/// and `#` for one of 5,000 bytes, `@` for a symbolic link to `d/x`, `%` for an executable block
-/// device, `$` for a character device, `=` for a socket and `|` for a fifo; and for a hard link a
-/// digit, the index of the word that it leads to.
+/// The sign is `/` for a directory and `*` for an executable one, `-` for a file with the bytes
+/// `hi` and `#` for one of 5,000 bytes, `@` for a symbolic link to `d/x`, `%` for an executable
+/// block device, `$` for a character device, `=` for a socket and `|` for a fifo; and for a hard
+/// link a digit, the index of the word that it leads to.
 pub fn image<A: Allocator + Copy>(
     alloc: A,
     volume: &[u8],
@@ -44,7 +44,7 @@ pub fn mixed(alloc: Global) -> Result<Vec<u8>, BuildFault> {
     image(alloc, b"v", "13a 1%b 1/d 2|e 2/f 3=g 20h")
 }
 
-/// The image that bytes are, checked.
+/// The image in these bytes, checked.
 pub fn checked<A: Allocator + Copy>(alloc: A, bytes: Vec<u8, A>) -> Result<Image<A>, BuildFault>
     ensures { IfOk result (λ image. image.whole ≡ true) }
 {
@@ -108,7 +108,7 @@ fn big<A: Allocator>(alloc: A) -> Result<Vec<u8, A>, AllocError> {
     Ok(big)
 }
 
-/// The data of the files that have a sign.
+/// The data of the files with a sign.
 fn data_of<A: Allocator>(alloc: A, sign: u8) -> Result<Vec<u8, A>, AllocError> {
     match sign {
         b'#' => big(alloc),

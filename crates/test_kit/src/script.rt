@@ -40,8 +40,8 @@ const FIRST_REPLIES: &str = "\
 98030000 00000000 03000000 00000000
 ";
 
-/// The replies to WRITE and to what follows it, 16, 16, 19, 208, 96, 16 and 16 bytes, and one byte
-/// more.
+/// The replies to WRITE and to the requests after it, 16, 16, 19, 208, 96, 16 and 16 bytes, and one
+/// more byte.
 const LAST_REPLIES: &str = "\
 10000000 e2ffffff 06000000 00000000 10000000 daffffff 07000000 00000000
 13000000 00000000 08000000 00000000 642f78d0 00000000 00000009 00000000
@@ -59,8 +59,8 @@ const LAST_REPLIES: &str = "\
 ";
 
 /// INIT 7.31 of a client that finds `.` and `..` by LOOKUP; LOOKUP of `big` below node 1, of `.`
-/// and `..` below node 3, and of both below node 2, which is no directory; READDIRPLUS of node 1;
-/// BATCH_FORGET of 2 lookups of node 2, and of one of node 9, which is not there; FORGET of 5
+/// and `..` below node 3, and of both below node 2, which is not a directory; READDIRPLUS of node
+/// 1; BATCH_FORGET of 2 lookups of node 2, and of one of node 9, which does not exist; FORGET of 5
 /// lookups of node 6; and a FORGET of node 3 that is one byte short.
 const LOOKUPS: &str = "\
 38000000 1a000000 01000000 00000000 00000000 00000000 00000000 00000000
@@ -102,7 +102,7 @@ pub fn script(alloc: Global) -> Result<Vec<u8>, AllocError> {
     bytes_of(alloc, SCRIPT)
 }
 
-/// The replies to it, 1,531 bytes. READ gives the file's bytes from 4,096 on, each of them its
+/// The replies to it, 1,531 bytes. READ returns the file's bytes from 4,096 on, each of them its
 /// place modulo 251.
 pub fn script_replies(alloc: Global) -> Result<Vec<u8>, AllocError> {
     let mut replies = bytes_of(alloc, FIRST_REPLIES)?;
@@ -138,7 +138,7 @@ pub fn long_replies(alloc: Global) -> Result<Vec<u8>, AllocError> {
     Ok(replies)
 }
 
-/// INIT and LOOKUP, 100 bytes, and then a length that no message has.
+/// INIT and LOOKUP, 100 bytes, and then a length that no message can have.
 pub fn bad_stream(alloc: Global) -> Result<Vec<u8>, AllocError> {
     let mut stream = script(alloc)?;
     stream.truncate(100);

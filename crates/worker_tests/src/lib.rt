@@ -1,4 +1,4 @@
-//! The tests of `reply_pool`, of single answers and of `draw_board` that no contract can say.
+//! The tests of `reply_pool`, of single answers and of `draw_board` for what no contract can say.
 //!
 //! Which numbers make a plan (`plans`), rounds of jobs by any plan (`batches`), a batch that is
 //! held until others have come (`gates`), callers' own threads that share a board (`threads`),

@@ -1,7 +1,7 @@
 //! Sessions of clients at a socket.
 //!
-//! A client writes all its requests before the sessions begin, and reads after them: a socket holds
-//! that much.
+//! A client writes all its requests before the sessions begin and reads after them: a socket
+//! buffers that much.
 
 use serve_core::{FreePass, Plan, prepare};
 use std::alloc::{Allocator, Global};
@@ -34,8 +34,8 @@ fn read_of(global: Global, mut client: UnixStream) -> Option<usize> {
     (ended.is_ok() && replies.starts_with(&read)).then_some(read.len())
 }
 
-/// Whether this many sessions over the sample image give this status and these lines. The table is
-/// in memory of `plain`.
+/// Whether this many sessions over the sample image end with this status and print these lines. The
+/// table is in memory of `plain`.
 fn are_served<R: Threads + Sync, A: Allocator + Copy + Send + Sync>(
     rt: &R,
     global: Global,
@@ -53,7 +53,7 @@ fn are_served<R: Threads + Sync, A: Allocator + Copy + Send + Sync>(
     Some(status == told.0 && lines.as_slice() == told.1)
 }
 
-/// A listener under a name that the system gives.
+/// A listener under a name that the system chooses.
 fn listener<R: Files + Net>(rt: &R) -> io::Result<UnixListener> {
     UnixListener::bind(rt, "")
 }
@@ -72,8 +72,8 @@ fn no_session_follows_where_no_client_is_accepted(rt: HostRuntime) -> Result<(),
     Ok(())
 }
 
-/// What two sessions report if the request for memory with this number is refused; each makes two:
-/// for its replies and the buffer.
+/// What two sessions print if the request for memory with this number is refused; each session
+/// makes two, for its replies and for the buffer.
 fn told_at(refuse_at: u64) -> (u8, &'static [u8]) {
     match refuse_at {
         1..=2 => (5, b"session 1: out of memory\n"),
@@ -82,8 +82,8 @@ fn told_at(refuse_at: u64) -> (u8, &'static [u8]) {
     }
 }
 
-/// Whether two sessions end as they should if one request for memory is refused: with its session's
-/// line and status, the other served.
+/// Whether two sessions end as they should if one request for memory is refused: that session with
+/// its line and status, and the other served.
 fn is_refused<R: Files + Net + Threads + Sync>(rt: &R, memories: &Memories) -> Option<bool> {
     let (global, refuse_at) = (memories.global, memories.refuse_at);
     let listener = listener(rt).ok()?;

@@ -10,7 +10,7 @@ use std::test::Fail;
 use std::thread::Threads;
 use test_kit::messages::{REPLIES, REQUESTS};
 
-/// A reader that gives its bytes, then fails once, and is then at its end.
+/// A reader that returns its bytes, then fails once, and is then at its end.
 #[derive(Drop)]
 struct Broken<'a> {
     bytes: &'a [u8],
@@ -29,7 +29,7 @@ impl Read for Broken<'_> {
 }
 
 /// A writer that has room for this many bytes, and may fail to flush them. It fails once, and then
-/// takes all.
+/// takes everything.
 #[derive(Drop)]
 struct Full {
     room: usize,
@@ -73,7 +73,7 @@ fn writers_that_fail_are_told(rt: HostRuntime) -> Result<(), Fail> {
     Ok(())
 }
 
-/// The status of the program over requests behind which a read fails, and whether it writes the
+/// The status of the program over requests after which a read fails, and whether it writes the
 /// replies.
 fn end_of_broken<R: Files + Net + Threads + Sync>(
     rt: &R,

@@ -10,8 +10,9 @@ use std::thread::Threads;
 use test_kit::memories::{Memories, refuse_in_turn};
 use test_kit::messages::{REPLIES, REQUESTS};
 
-/// Whether the program over two requests reports that memory was refused, after a beginning of its
-/// output; or else wrote all of it. If none is given, it writes nothing when memory was refused.
+/// Whether the program over two requests reports that memory was refused, after a prefix of its
+/// output, or otherwise writes all of it. If `whole` is `None`, it writes nothing if memory is
+/// refused.
 fn is_told<R: Files + Net + Threads + Sync>(
     rt: &R,
     memories: &Memories,

@@ -1,4 +1,4 @@
-//! A source over a reader that gives one complete message a read.
+//! A source over a reader that returns one complete message per read.
 
 use devices::Source;
 use serve_device::MessageTap;
@@ -7,12 +7,12 @@ use std::io::{self, Error, Read};
 use std::test::Fail;
 use test_kit::refusing::Refusing;
 
-/// The least room of a read that the kernel takes.
+/// The least room for a read that the kernel accepts.
 const LEAST_ROOM: usize = 131_152;
 
-/// A reader that gives messages of these sizes, one a read, each byte its place modulo 251. Before
-/// each of them this many reads are interrupted by an error number. Then it fails with an error
-/// number, or ends.
+/// A reader that returns messages of these sizes, one per read; each byte is its place modulo 251.
+/// Before each message this many reads are interrupted with an error number. Then the reader fails
+/// with an error number, or ends.
 #[derive(Drop)]
 struct Messages<'a> {
     sizes: &'a [usize],
@@ -68,7 +68,7 @@ impl Read for Messages<'_> {
     }
 }
 
-/// What pulls gave until the end or a failure.
+/// What pulls returned until the end or a failure.
 #[derive(Drop)]
 struct Pulled {
     bytes: Vec<u8>,
@@ -104,10 +104,10 @@ fn pull_all<S: Source>(alloc: Global, source: &mut S, room: usize) -> Result<Pul
     Err(AllocError)
 }
 
-/// What pulls gave until the end or a failure.
+/// What pulls returned until the end or a failure.
 #[derive(Clone, Copy, PartialEq, Eq)]
 struct Seen {
-    /// Whether they gave the messages that they should.
+    /// Whether they returned the messages that they should.
     whole: bool,
     /// Whether they reached the end.
     ended: bool,
@@ -116,7 +116,7 @@ struct Seen {
     gone: (bool, bool),
 }
 
-/// Pulls messages off the reader, into a room of this size: those of these sizes, and no others.
+/// Pulls messages from the reader into a room of this size: messages of these sizes, and no others.
 fn pulls_of(
     alloc: Global,
     reader: &mut Messages<'_>,
@@ -134,7 +134,7 @@ fn pulls_of(
     })
 }
 
-/// Whether the bytes are one message after the other.
+/// Whether the bytes are one message after another.
 fn are_messages(bytes: &[u8], sizes: &[usize]) -> bool {
     let mut rest = bytes;
     for size in sizes {
@@ -153,8 +153,8 @@ fn are_messages(bytes: &[u8], sizes: &[usize]) -> bool {
     rest.is_empty()
 }
 
-/// The sizes of two messages, the room of a pull, and how many pulls give them, with that of the
-/// end.
+/// The sizes of two messages, the room of a pull, and how many pulls read them, including the one
+/// that reads the end.
 const SIZES: [([usize; 2], usize, u32); 10] = [
     ([40, 41], 65_536, 3),
     ([40, 104], 41, 5),
@@ -246,7 +246,7 @@ fn requests_of_room(global: Global) -> Option<u64> {
     (ended && counting.requests() == requests).then_some(requests)
 }
 
-/// Whether a room is refused, and nothing is read, if the request with this number is.
+/// Whether a room is refused, and nothing is read, if the request with this number is refused.
 fn is_refused(global: Global, refuse_at: u64) -> bool {
     let refusing = Refusing::new(global, refuse_at);
     let mut reader = messages_of(&[40]);

@@ -45,7 +45,7 @@ fn connected<R: Net>(rt: &R, socket: &str) -> Option<UnixStream> {
     None
 }
 
-/// How many bytes a client of the socket at a path is answered that writes this stream.
+/// How many bytes a client of the socket at a path receives if it writes this stream.
 fn answered<R: Net>(rt: &R, global: Global, socket: &str, stream: &[u8]) -> Option<usize> {
     let mut client = connected(rt, socket)?;
     let written = client.write_all(stream);
@@ -70,7 +70,7 @@ where
     status_of(rt, global, alloc, words, b"".as_slice(), &mut output, b"")
 }
 
-/// This status, and how much the client of that session is answered.
+/// This status, and how many bytes the client of that session receives.
 fn served_and_answered<R: Files + Net<Listener = TcpListener, Stream = TcpStream> + Threads + Sync>(
     rt: &R,
     global: Global,
@@ -94,7 +94,7 @@ where
     )
 }
 
-/// The same number of requests for memory if a client of a socket asks for the replies.
+/// The same number of requests for memory if a client of a socket writes the stream.
 fn requests_at<R: Files + Net<Listener = TcpListener, Stream = TcpStream> + Threads + Sync>(
     rt: &R,
     global: Global,
@@ -123,8 +123,8 @@ where
     (status == Some(0) && replies.is_some()).then_some(memory.requests())
 }
 
-/// What three plans ask for over a stream for the image at a path: one worker, two with the largest
-/// batches, and two with the smallest; by `serve`, and at a socket.
+/// How many requests for memory three plans make over a stream for the image at a path: one worker,
+/// two with the largest batches, and two with the smallest; by `serve`, and at a socket.
 fn requests_of_plans<R: Files + Net<Listener = TcpListener, Stream = TcpStream> + Threads + Sync>(
     rt: &R,
     global: Global,
@@ -158,14 +158,14 @@ where
     Some(requests_of_plans(rt, global, path, socket, &stream))
 }
 
-/// Whether one worker asks for less memory than two, and these for less in batches of 256 than in
+/// Whether one worker asks for less memory than two, and two in batches of 256 for less than in
 /// batches of one.
 fn have_their_plans(requests: [u64; 3]) -> bool {
     let [alone, even, small] = requests;
     0 < alone && alone < even && even.saturating_add(60) < small
 }
 
-/// Of 120 pages of a directory workers have a board and pieces, and each batch asks for memory of
+/// For 120 pages of a directory, workers have a board and pieces, and each batch asks for memory of
 /// its own: two batches, one for each of two workers, or 120. Which worker draws how many is left
 /// to chance, and moves these numbers by some ten.
 #[test]

@@ -12,7 +12,7 @@ use strata::command;
 use test_kit::sample_images::empty;
 
 /// The status of the program over these streams, in memory of `alloc`; none if standard error has
-/// anything but this line, or anything at all when the status is 0.
+/// anything but this line, or anything at all if the status is 0.
 pub fn status_of<
     R: Files + Net + Threads + Sync,
     A: Allocator + Copy + Send + Sync,
@@ -31,7 +31,7 @@ where
     (faults.as_slice() == told).then_some(status)
 }
 
-/// The path of a file of this test alone.
+/// The path of a file that only this test uses.
 pub fn file_path(rt: &HostRuntime, test: &str, ending: &str) -> Result<String, Fail> {
     let temporary = env::temp_dir(rt)?;
     let process = process::id(rt.process());
@@ -39,14 +39,14 @@ pub fn file_path(rt: &HostRuntime, test: &str, ending: &str) -> Result<String, F
     Ok(format!(in rt.alloc(); "{parent}/strata-{test}-{process}.{ending}")?)
 }
 
-/// Writes an image into a file, and gives its path.
+/// Writes an image into a file, and returns its path.
 pub fn written(rt: &HostRuntime, test: &str, image: &[u8]) -> Result<String, Fail> {
     let path = file_path(rt, test, "img")?;
     fs::write(rt, path.as_str(), image)?;
     Ok(path)
 }
 
-/// Writes the empty image into a file, and gives its path.
+/// Writes the empty image into a file, and returns its path.
 pub fn image_file(rt: &HostRuntime, test: &str) -> Result<String, Fail> {
     written(rt, test, &empty(rt.alloc())?)
 }

@@ -1,4 +1,4 @@
-//! A sink over a writer that takes one complete reply a write.
+//! A sink over a writer that takes one complete reply per write.
 
 use devices::{Sink, hand_on};
 use serve_device::ReplySpout;
@@ -6,7 +6,7 @@ use std::alloc::{AllocError, Global};
 use std::io::{self, Error, Write};
 use std::test::Fail;
 
-/// A writer that takes this many bytes of a write at most, and this many writes, and then fails
+/// A writer that takes at most this many bytes of a write, and this many writes, and then fails
 /// with an error number. It keeps the sizes of its writes.
 #[derive(Drop)]
 struct Replies {
@@ -46,7 +46,7 @@ impl Write for Replies {
     }
 }
 
-/// Bytes that say these lengths, each as long as that.
+/// Runs of bytes of these lengths, each of which begins with its length.
 fn bytes_of(alloc: Global, lengths: &[u32]) -> Result<Vec<u8>, AllocError> {
     let mut bytes = Vec::new(alloc);
     for len in lengths {
@@ -58,12 +58,12 @@ fn bytes_of(alloc: Global, lengths: &[u32]) -> Result<Vec<u8>, AllocError> {
     Ok(bytes)
 }
 
-/// What pushing bytes to a writer gave.
+/// The result of pushing bytes to a writer.
 #[derive(Clone, Copy, PartialEq, Eq)]
 struct Seen {
     /// How many bytes were pushed; none if it failed.
     pushed: Option<usize>,
-    /// How many bytes the writer has, if they begin those that were pushed.
+    /// How many bytes the writer has, if they are a prefix of what was pushed.
     taken: Option<usize>,
     /// Whether its writes had the sizes that they should.
     sized: bool,
@@ -175,8 +175,8 @@ fn writes_that_fail(rt: HostRuntime) -> Result<(), Fail> {
     Ok(())
 }
 
-/// A reply for which nobody waits is let go, once it was written: after each of them the next one
-/// comes, and the bytes that the writer took are those before the first.
+/// A reply that no request waits for is dropped after it is written: after each of them the next
+/// one follows, and the bytes that the writer took are those before the first.
 #[test]
 fn replies_that_nobody_waits_for(rt: HostRuntime) -> Result<(), Fail> {
     let bytes = bytes_of(rt.alloc(), &[16, 80, 120])?;

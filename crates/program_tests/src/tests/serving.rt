@@ -36,8 +36,8 @@ fn served<R: Threads + Sync>(
     }
 }
 
-/// How the script over the sample image ends in this many pulls, if what is written begins the
-/// replies.
+/// How the script over the sample image ends in this many pulls, if the written bytes are a prefix
+/// of the replies.
 fn end_of<R: Threads + Sync>(rt: &R, memories: &Memories, turns: u32) -> Option<Ended> {
     let stream = script(memories.global).ok()?;
     let mut output = Vec::new(memories.global);

@@ -1,4 +1,4 @@
-//! What a stream of lookups leaves: the balance of each node, by every plan.
+//! The balances that a stream of lookups leaves, for every plan.
 
 ghost use Rattle.std.specs.Prelude.{◌≡◌, true};
 

@@ -10,7 +10,7 @@ use std::test::Fail;
 use std::thread::Threads;
 use test_kit::script::{script, script_replies};
 
-/// The plans by which each is tried: workers, and the messages of a batch.
+/// The plans that each test uses: workers, and the messages of a batch.
 const PLANS: [(u32, u32); 3] = [(1, 1), (2, 3), (5, 1)];
 
 /// The ends of the script's messages, and how many bytes the replies up to there have.
@@ -70,7 +70,7 @@ impl Script {
         })
     }
 
-    /// Whether a run by each plan comes to this.
+    /// Whether a run by each plan has this result.
     fn ends<R: Threads + Sync>(&self, rt: &R, global: Global, row: Run, wanted: Wanted) -> bool {
         let streams = (self.stream.as_slice(), self.replies.as_slice());
         for plan in PLANS {
@@ -84,7 +84,7 @@ impl Script {
     }
 }
 
-/// The first byte at which a source fails and the script does not end as it is to.
+/// The first byte at which a source fails and the script does not end as it should.
 fn wrong_source<R: Threads + Sync>(rt: &R, global: Global, script: &Script) -> Option<usize> {
     for given in 0..=652 {
         let row = Run {
@@ -110,7 +110,7 @@ fn a_source_fails_at_each_byte(rt: HostRuntime) -> Result<(), Fail> {
     Ok(())
 }
 
-/// The first size of a sink's room with which the script does not end as it is to.
+/// The first size of a sink's room with which the script does not end as it should.
 fn wrong_room<R: Threads + Sync>(rt: &R, global: Global, script: &Script) -> Option<usize> {
     for room in 0..=1531 {
         let row = Run {
@@ -140,8 +140,8 @@ fn a_sink_fails_at_each_byte(rt: HostRuntime) -> Result<(), Fail> {
     Ok(())
 }
 
-/// How many bytes of replies are put before each flush, if each message comes by itself; and that
-/// no flush follows.
+/// How many bytes of replies are written before each flush, if each message arrives by itself; and
+/// that no flush follows.
 const FLUSHES: [(u64, usize); 11] = [
     (0, 80),
     (1, 224),
@@ -166,7 +166,7 @@ fn end_behind(flushes: u64) -> (End, u64) {
     }
 }
 
-/// The first number of flushes behind which the script does not end as it is to.
+/// The first number of flushes after which the script does not end as it should.
 fn wrong_flush<R: Threads + Sync>(rt: &R, global: Global, script: &Script) -> Option<u64> {
     for (flushes, put) in FLUSHES {
         let row = Run {
@@ -182,7 +182,7 @@ fn wrong_flush<R: Threads + Sync>(rt: &R, global: Global, script: &Script) -> Op
     None
 }
 
-/// Of ten flushes each is the last, behind a write, and then none.
+/// Each of ten flushes is the last, after a write, and then there is none.
 #[test]
 fn each_flush_fails_alone(rt: HostRuntime) -> Result<(), Fail> {
     let script = Script::new(&rt, rt.alloc()).ok_or("the script")?;

@@ -42,7 +42,8 @@ fn the_lowest_check_waits_for_the_next(rt: HostRuntime) {
     assert!(rt; nodes == Some(6) && !gate.is_given_up());
 }
 
-/// Checks of 128 images: of no more parts at a time than 16 or, on fewer processors, these.
+/// At most 16 parts of 128 images are checked at a time, or as many as there are processors if
+/// these are fewer.
 #[test]
 fn some_parts_are_checked_at_a_time(rt: HostRuntime) {
     let parts = parts_of_layers(&rt);
@@ -74,7 +75,7 @@ fn begun<R: Threads + Sync>(
     (ran.end().is_ok() && checks == 0 && trees == 0).then_some(batches)
 }
 
-/// The first of these plans that begins other batches than those given beside it.
+/// The first of these plans that begins other batches than those beside it.
 fn wrong_plan<R: Threads + Sync>(
     rt: &R,
     global: Global,

@@ -28,8 +28,8 @@ fn bad_sum(alloc: Global) -> Result<Vec<u8>, AllocError> {
     Ok(image)
 }
 
-/// The empty image with the checksum 0 of the root's header, and a checksum of the volume that goes
-/// with it.
+/// The empty image with the checksum 0 of the root's header, and the matching checksum of the
+/// volume.
 fn bad_header(alloc: Global) -> Result<Vec<u8>, AllocError> {
     let mut image = empty(alloc)?;
     for place in 44..48 {
@@ -56,7 +56,7 @@ fn bad_over_empty(alloc: Global) -> Result<Vec<Vec<u8>>, AllocError> {
     Ok(images)
 }
 
-/// What no device was called for.
+/// The outcome for which no device was called.
 fn untouched(stop: Stop) -> Outcome {
     (Err(stop), 0, 0, 0)
 }
@@ -68,7 +68,7 @@ fn fault(layer: u16, rule: Rule, place: u32) -> Stop {
 
 const SERVED: Outcome = (Ok((12, 1531)), 1531, 2, 2);
 
-/// What serving these layers by a profile gives.
+/// The result of serving these layers by a profile.
 fn served<R: Threads + Sync>(
     rt: &R,
     global: Global,

@@ -21,7 +21,7 @@ enum Call {
     Serve(u64, (u32, u32)),
 }
 
-/// How many nodes images have that are prepared.
+/// How many nodes images have after preparing.
 fn nodes_of<R: Threads + Sync, A: Allocator + Copy + Send + Sync>(
     rt: &R,
     alloc: A,
@@ -98,7 +98,7 @@ fn requests_of_preparing<R: Threads + Sync>(rt: &R, global: Global) -> Option<u6
 }
 
 /// Whether a run reports that memory was refused, after some of the first replies, and calls no
-/// device after that; or else completed.
+/// device after that; or otherwise completed.
 fn is_run(seen: &Option<Seen>, refused: bool) -> bool {
     let end = if refused {
         Err(Stop::Memory)
@@ -113,7 +113,7 @@ fn is_untouched(seen: &Option<Seen>, refuse_at: u64, preparing: u64) -> bool {
     preparing < refuse_at || seen.is_some_and(|seen| seen.reads == 0 && seen.writes == 0)
 }
 
-/// Whether a call reports that memory was refused, or else gives the right result.
+/// Whether a call reports that memory was refused, or otherwise returns the right result.
 fn is_told<R: Threads + Sync>(rt: &R, memories: &Memories, call: Call) -> bool {
     let refusing = &memories.refusing;
     match call {
@@ -175,7 +175,7 @@ fn serving_is_refused(rt: HostRuntime) -> Result<(), Fail> {
     Ok(())
 }
 
-/// The last request is for room behind the beginning of the WRITE: all replies before it are put.
+/// The last request is for room for the beginning of the WRITE: all replies before it are written.
 #[test]
 fn the_last_request_is_refused_behind_all_replies(rt: HostRuntime) -> Result<(), Fail> {
     let counting = Memories::new(rt.alloc(), 0);
@@ -187,7 +187,7 @@ fn the_last_request_is_refused_behind_all_replies(rt: HostRuntime) -> Result<(),
     Ok(())
 }
 
-/// With no turns no more is asked for than what preparing takes.
+/// With no turns no more memory is taken than for preparing.
 #[test]
 fn no_turns_take_no_memory(rt: HostRuntime) -> Result<(), Fail> {
     let preparing = requests_of_preparing(&rt, rt.alloc()).ok_or("the sample image")?;

@@ -4,7 +4,7 @@ ghost use Rattle.std.specs.Prelude.{◌≡◌, true, IfSome};
 
 use node_reader::Table;
 use serve_core::{
-    Counted, Done, FreePass, Gate, MAX_TURNS, Plan, Served, Session, Stop, Terms, Work,
+    Counted, Done, FreePass, Gate, MAX_TURNS, Plan, Served, Session, StreamFault, Terms, Work,
 };
 use serve_device::{End, Seat, end_of_all, seats_over, serve_by_readers};
 use serve_test_kit::runs::table_of;
@@ -38,15 +38,15 @@ const NEVER: Fails = Fails {
     number: 0,
 };
 
-/// A device that gives a message a read, and takes a reply a write.
+/// A device that returns one message per read, and takes one reply per write.
 #[derive(Drop)]
 struct Device {
     fails: Fails,
     reads: AtomicU64,
     writes: AtomicU64,
     given: AtomicU64,
-    /// The bits of the messages that are answered. The bit 0 is that of a reply that is wrong, or
-    /// the second one to its message.
+    /// The bits of the messages that are answered. Bit 0 is set by a reply that is wrong, or the
+    /// second one to its message.
     answered: AtomicU64,
 }
 
@@ -69,7 +69,7 @@ impl Device {
     }
 }
 
-/// Counts a call, and gives its number, from 1 on.
+/// Counts a call, and returns its number, counted from 1.
 fn count(calls: &AtomicU64) -> u64 {
     calls.fetch_add(1, Ordering::SeqCst).saturating_add(1)
 }
@@ -195,7 +195,7 @@ fn served<R: Threads + Sync, A: Allocator + Copy + Send + Sync, G: Gate + Sync>(
     Some((end_of_all(all), counted(&before, all)))
 }
 
-/// The same of a new device, with what is answered.
+/// The same for a new device, with its answered messages.
 fn seen_over<R: Threads + Sync, A: Allocator + Copy + Send + Sync, G: Gate + Sync>(
     rt: &R,
     alloc: A,
@@ -224,7 +224,7 @@ fn seen_of<R: Threads + Sync, G: Gate + Sync>(
     seen_over(rt, &memories.refusing, &table, readers, fails, gate)
 }
 
-/// Of each message one reply, by one reader, two or sixteen. Each stream comes to its end, and
+/// Each message gets one reply, from one reader, two or sixteen. Each stream comes to its end, and
 /// before them that of INIT.
 #[test]
 fn each_message_is_answered_once(rt: HostRuntime) {
@@ -237,7 +237,7 @@ fn each_message_is_answered_once(rt: HostRuntime) {
     }
 }
 
-/// Lets INIT go, and holds the next message until one more is under way.
+/// Lets INIT pass, and holds the next message until one more is under way.
 #[derive(Drop)]
 struct Meeting {
     came: AtomicU64,
@@ -275,7 +275,7 @@ fn is_refused<R: Threads + Sync>(rt: &R, memories: &Memories) -> bool {
     let seen = seen_of(rt, memories, 3, NEVER, &FreePass);
     match (memories.refusing.refused(), seen) {
         (false, Some(seen)) => seen == (End::AtEnd, (4, MESSAGES), ALL),
-        (true, Some((end, _, _))) => end == End::Stopped(Stop::Memory),
+        (true, Some((end, _, _))) => end == End::Stopped(StreamFault::Memory),
         (refused, None) => refused,
     }
 }
@@ -301,15 +301,18 @@ fn ends_so<R: Threads + Sync>(
     }
 }
 
-/// A read that fails ends its reader alone: all messages are answered by the others. A write that
-/// fails ends its reader alone, too, and that reply is lost. With ENODEV each is the end of a
-/// mount.
+/// A read that fails ends only its reader: the others answer all messages. A write that fails also
+/// ends only its reader, and that reply is lost. With ENODEV each is the end of a mount.
 #[test]
 fn what_fails_ends_one_reader(rt: HostRuntime) {
     let memories = Memories::new(rt.alloc(), 0);
     for at in [2, 9, 41] {
         for (number, read, write) in [
-            (5, End::Stopped(Stop::Read), End::Stopped(Stop::Write)),
+            (
+                5,
+                End::Stopped(StreamFault::Read),
+                End::Stopped(StreamFault::Write),
+            ),
             (19, End::TakenAway, End::TakenAway),
         ] {
             let reading = Fails {
@@ -333,14 +336,14 @@ fn what_fails_ends_one_reader(rt: HostRuntime) {
 #[test]
 fn no_other_reader_begins_before_init(rt: HostRuntime) {
     let memories = Memories::new(rt.alloc(), 0);
-    for (read, write, stop) in [(1, 0, Stop::Read), (0, 1, Stop::Write)] {
+    for (read, write, fault) in [(1, 0, StreamFault::Read), (0, 1, StreamFault::Write)] {
         let fails = Fails {
             read,
             write,
             number: 5,
         };
         let seen = seen_of(&rt, &memories, 3, fails, &FreePass);
-        let wanted = (End::Stopped(stop), (0, 0), 0);
+        let wanted = (End::Stopped(fault), (0, 0), 0);
         assert!(rt; seen == Some(wanted), "{read}");
     }
 }

@@ -1,5 +1,5 @@
-//! Data in a file that gives little at a time and fails from a place on: a READ gets its bytes or
-//! EIO, and the run continues.
+//! Data in a file that returns few bytes at a time and fails from a place on: a READ gets its bytes
+//! or EIO, and the run continues.
 
 use devices::{Contents, Unread};
 use node_reader::Table;
@@ -11,10 +11,10 @@ use std::thread::Threads;
 use test_kit::sample_images::sample;
 use test_kit::script::{script, script_replies};
 
-/// The reply of EIO to the script's READ, which is its third request.
+/// The reply with EIO to the script's READ, which is its third request.
 const UNREAD: [u8; 16] = [16, 0, 0, 0, 251, 255, 255, 255, 3, 0, 0, 0, 0, 0, 0, 0];
 
-/// A file of these bytes that gives at most three at once, and fails from a place on.
+/// A file of these bytes that returns at most three at once, and fails from a place on.
 #[derive(Drop)]
 struct Slow<'a> {
     bytes: &'a [u8],
@@ -45,8 +45,8 @@ impl Contents for Slow<'_> {
     }
 }
 
-/// Whether the script is replied so over a table whose layer is in such a file: with the bytes that
-/// its READ asks for, or with EIO in their place.
+/// Whether the script gets these replies over a table whose layer is in such a file: with the bytes
+/// that its READ asks for, or with EIO instead.
 fn is_told<R: Threads + Sync>(
     rt: &R,
     global: Global,
@@ -65,7 +65,7 @@ fn is_told<R: Threads + Sync>(
     Some(ran.end().is_ok() && ran.put == wanted)
 }
 
-/// The replies to the script, or those in which the READ gets EIO.
+/// The replies to the script, or those with EIO for the READ.
 fn wanted(global: Global, is_read: bool) -> Option<Vec<u8>> {
     let replies = script_replies(global).ok()?;
     if is_read {

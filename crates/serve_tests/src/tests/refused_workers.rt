@@ -14,7 +14,7 @@ use test_kit::memories::{Memories, refuse_in_turn};
 use test_kit::refusing::Refusing;
 
 /// Whether a run of a stream over a table reports that memory was refused, after some of the first
-/// replies, and calls no device after it; or else gives all replies.
+/// replies, and calls no device after it; or otherwise writes all replies.
 fn is_told_over<'a, R: Threads + Sync>(
     rt: &R,
     memories: &'a Memories,
@@ -59,7 +59,7 @@ fn replies_to<R: Threads + Sync>(rt: &R, global: Global, stream: &[u8]) -> Optio
     Some(whole?.put)
 }
 
-/// One worker asks for the balances, the replies and the buffer; several for more, as they have
+/// One worker needs memory for the balances, the replies and the buffer; several need more, for
 /// jobs, pieces and a board.
 #[test]
 fn runs_by_workers_are_refused(rt: HostRuntime) -> Result<(), Fail> {

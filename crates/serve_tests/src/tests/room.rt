@@ -12,7 +12,7 @@ use test_kit::long::{mebibyte, reads};
 use test_kit::refusing::Refusing;
 use test_kit::sample_images::alone;
 
-/// Whether the longest round comes to its end in two writes, by this memory.
+/// Whether the longest round comes to its end in two writes, with this memory.
 fn ends_in_two_writes<'a, R: Threads + Sync>(
     rt: &R,
     global: Global,
@@ -27,8 +27,8 @@ fn ends_in_two_writes<'a, R: Threads + Sync>(
     Some(ran.end() == Ok((3, 1_310_735)) && ran.writes == 2)
 }
 
-/// INIT's reply and that of a READ have one byte less than end a round; then comes one of 1 MiB.
-/// Memory is asked for the balances, the replies and the buffer.
+/// INIT's reply and that of a READ have one byte less than what ends a round; then one of 1 MiB
+/// follows. Memory is taken for the balances, the replies and the buffer.
 #[test]
 fn the_longest_round_has_room(rt: HostRuntime) -> Result<(), Fail> {
     let global = rt.alloc();

@@ -1,5 +1,5 @@
-//! The twelve-request script over the sample image, however it comes and goes, and a long stream
-//! without a reply.
+//! The twelve-request script over the sample image, however it arrives and its replies are taken,
+//! and a long stream without a reply.
 
 use serve_core::{Profile, Stop};
 use serve_test_kit::runs::{Outcome, Run, Seen, Stream, TURNS, WHOLE, run_of, serve_of};
@@ -8,7 +8,7 @@ use std::test::Fail;
 use std::thread::Threads;
 use test_kit::sample_images::samples;
 
-/// Whether a run of the script comes to all of its replies, in this many reads.
+/// Whether a run of the script writes all of its replies, in this many reads.
 fn gives_the_replies<R: Threads + Sync>(rt: &R, global: Global, row: Run, reads: u64) -> bool {
     let seen = run_of(rt, global, global, global, row, None);
     seen.is_some_and(|seen| {
@@ -31,7 +31,7 @@ fn every_way_gives_the_same_bytes(rt: HostRuntime) {
     }
 }
 
-/// No reply to the script differs if it is served lastingly.
+/// No reply to the script differs in a lasting stream.
 #[test]
 fn the_script_is_served_lastingly(rt: HostRuntime) -> Result<(), Fail> {
     let (global, profile) = (rt.alloc(), Profile::Usual);
@@ -41,7 +41,7 @@ fn the_script_is_served_lastingly(rt: HostRuntime) -> Result<(), Fail> {
     Ok(())
 }
 
-/// A stream; how many of its first bytes are given, in pieces of this many; whether the read after
+/// A stream; how many of its first bytes arrive, in pieces of this many; whether the read after
 /// them fails; the turns.
 type Source = (Stream, usize, usize, bool, u32);
 

@@ -1,4 +1,4 @@
-//! Streams whose rounds are worth workers: for every plan they give what one worker gives.
+//! Streams whose rounds are worth workers: for every plan they have the results of one worker.
 
 ghost use Rattle.std.specs.Prelude.{◌≡◌, true};
 
@@ -56,19 +56,19 @@ impl Holding {
     }
 }
 
-/// Whether all replies to 270 requests are there.
+/// Whether all replies to 270 requests arrived.
 fn is_whole(ran: &Finished<Global>, long: Long) -> bool {
     let all = long.reply().saturating_mul(270).saturating_add(80);
     ran.end() == Ok((271, u128::from(all))) && ran.put.len() as u64 == all
 }
 
-/// Whether two runs gave the same.
+/// Whether two runs have the same result.
 fn is_same(one: &Finished<Global>, other: &Finished<Global>) -> bool {
     one.end() == other.end() && one.put == other.put && one.balances() == other.balances()
 }
 
-/// Whether a stream of 270 requests by one worker and by this plan comes to the same, with this
-/// many writes and flushes by either.
+/// Whether a stream of 270 requests has the same result with one worker and with this plan, with
+/// this many writes and flushes by either.
 fn is_right<R: Threads + Sync, G: Gate + Sync>(
     rt: &R,
     global: Global,
@@ -96,7 +96,7 @@ fn is_right<R: Threads + Sync, G: Gate + Sync>(
     Some(are_right && (alone.writes, many.writes) == writes)
 }
 
-/// The first kind of long reply that five workers do not give as one does.
+/// The first kind of long reply that five workers do not write as one does.
 fn wrong_kind<R: Threads + Sync>(rt: &R, global: Global, table: &Table<Global>) -> Option<Long>
     requires { table.now.whole ≡ true }
 {
@@ -119,7 +119,7 @@ fn long_replies_by_any_plan(rt: HostRuntime) -> Result<(), Fail> {
     Ok(())
 }
 
-/// The first plan whose workers do not give long lists as one does, or do not come together.
+/// The first plan whose workers do not write long lists as one does, or do not meet.
 fn wrong_plan<R: Threads + Sync>(
     rt: &R,
     global: Global,

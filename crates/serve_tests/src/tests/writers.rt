@@ -1,5 +1,5 @@
-//! Each writer with its request for memory refused: what stood before is unchanged, and the next
-//! call goes through.
+//! Each writer with its request for memory refused: earlier bytes are unchanged, and the next call
+//! succeeds.
 
 use fuse_wire::{
     Attr, Dirent, Errno, InitOut, Replies, put_attr, put_data, put_data_head, put_dirent,

@@ -1,5 +1,5 @@
-//! Trees of layers are made at the same time, but of no more parts than there are processors, nor
-//! than 16, each after its gate.
+//! Trees of layers are made at the same time, but of no more parts than there are processors, and
+//! at most 16, each after its gate.
 
 use super::stacks::wrong_of;
 use romfs_image::Image;
@@ -75,7 +75,7 @@ fn a_tree_is_made_behind_its_gate(rt: HostRuntime) -> Result<(), Fail> {
     let begun = memory.requests();
     let is_made = is_made(&rt, &memory, &images, &gate);
     drop(images);
-    // The list of the images that are lent is taken before.
+    // The list of the borrowed images is taken before.
     let listed = begun.wrapping_add(1);
     assert!(rt; is_made && listed < memory.requests() && gate.before() == listed);
     Ok(())

@@ -47,7 +47,7 @@ fn tree_of_one<A: Allocator + Copy>(
     }
 }
 
-/// Whether a tree has the file of the lower layer alone: of this layer, or of one laid on it.
+/// Whether a tree has only the file of the lower layer: of this layer, or of one laid on it.
 fn has_file<A: Allocator + Copy>(alloc: A, is_laid: bool) -> Result<bool, BuildFault> {
     let images = layers(alloc, "1/a 2-c + 1/a 2-.wh.c")?;
     let [below, above] = images.as_slice() else {
@@ -68,7 +68,7 @@ fn nodes_of<R: Threads + Sync, A: Allocator + Copy + Send + Sync>(
     Ok(nodes)
 }
 
-/// Whether a call gives the right result.
+/// Whether a call returns the right result.
 fn is_right<R: Threads + Sync, A: Allocator + Copy + Send + Sync>(
     rt: &R,
     alloc: A,

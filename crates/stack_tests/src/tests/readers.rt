@@ -12,7 +12,7 @@ use test_kit::refusing::Refusing;
 use test_kit::sample_images::{checked, empty, mixed};
 
 /// An image as genromfs lays it out: the root's `.` heads its own chain, `..` is a hard link to it,
-/// and then come `passwd`, an empty `motd` and an executable `init`.
+/// and then `passwd`, an empty `motd` and an executable `init` follow.
 const THREE_FILES: [u32; 64] = [
     0x2d726f6d, 0x3166732d, 0x00000100, 0xaad77bc4, 0x726f6d20, 0x35663337, 0x35396466, 0x00000000,
     0x00000049, 0x00000020, 0x00000000, 0xd1ffff97, 0x2e000000, 0x00000000, 0x00000000, 0x00000000,
@@ -59,7 +59,7 @@ fn three_files<'a>(
     bytes_of(global, &THREE_FILES)?.to_vec(memory)
 }
 
-/// Whether an image gives its three files and its root, without memory.
+/// Whether an image gives its three files and its root, without taking memory.
 fn tells_files(
     alloc: Global,
     memory: &Refusing<Global>,
@@ -74,7 +74,7 @@ fn tells_files(
     Ok(is_whole && memory.requests() == requests)
 }
 
-/// What an image is asked takes no memory.
+/// Reading an image takes no memory.
 #[test]
 fn reads_three_files(rt: HostRuntime) -> Result<(), Fail> {
     let memory = Refusing::new(rt.alloc(), 0);

@@ -27,8 +27,8 @@ fn count_in_two<R: Threads, A: Allocator + Copy + Send + Sync>(
     join(rt, move || count_pushed(alloc), move || count_pushed(alloc))
 }
 
-/// How many numbers a list holds when its growth is refused only by this request; none if it never
-/// is.
+/// How many numbers a list holds when only this request refuses its growth; none if it never is
+/// refused.
 fn held_at<A: Allocator>(alloc: A, refuse_at: u64) -> Result<Option<usize>, AllocError> {
     let refusing = Refusing::new(alloc, refuse_at);
     let mut held = Vec::new(&refusing);

@@ -1,4 +1,4 @@
-//! What trees say, and stacks, in whatever order they are laid.
+//! What trees and stacks show, in any order of laying.
 
 use super::told::first_wrong;
 use layer_tree::{OfLayer, Tree, lay};
@@ -69,7 +69,7 @@ fn laid<A: Allocator + Copy>(
     trees.pop().ok_or(BuildFault::Listing)
 }
 
-/// Layers laid in an order, or by none stacked.
+/// Layers laid in an order, or stacked if there is none.
 fn tree_of<R: Threads + Sync, A: Allocator + Copy + Send + Sync, G: Gate + Sync>(
     rt: &R,
     alloc: A,

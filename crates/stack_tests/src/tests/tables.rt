@@ -27,7 +27,7 @@ pub fn table_of<R: Threads + Sync, A: Allocator + Copy + Send + Sync>(
     Ok(Table::of(rt, alloc, tree, images)?)
 }
 
-/// Whether names lead to the nodes that they name, and others nowhere.
+/// Whether names find the nodes that they name, and other names none.
 fn are_children<A: Allocator>(table: &Table<A>) -> bool {
     for (number, name, child) in [
         (1u64, "d", Some(3u64)),
@@ -84,7 +84,7 @@ fn tells_all<A: Allocator>(table: &Table<A>) -> bool
         && parents == (Some(1), Some(1), None)
 }
 
-/// What a table is asked takes no memory.
+/// Reading a table takes no memory.
 #[test]
 fn names_and_numbers_that_are_nowhere(rt: HostRuntime) -> Result<(), Fail> {
     let memory = Refusing::new(rt.alloc(), 0);

@@ -45,7 +45,7 @@ fn signs<A: Allocator>(tree: &Tree<A>, path: &[&[u8]]) -> (u8, u8) {
     }
 }
 
-/// Whether a tree says this of a path; also, of a path that is no directory, that it has no
+/// Whether a tree says this about a path; and, for a path that is not a directory, that it has no
 /// children.
 fn is_told<A: Allocator>(tree: &Tree<A>, path: &[&[u8]], told: &str) -> bool {
     let [layer, kind, cut, names @ ..] = told.as_bytes() else {

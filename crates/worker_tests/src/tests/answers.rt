@@ -1,4 +1,4 @@
-//! An answer, and what it moves: what stood before is as it was.
+//! An answer, and the lookups that it moves: earlier bytes and moves are unchanged.
 
 ghost use Rattle.std.specs.Prelude.{◌≡◌, true};
 
@@ -20,7 +20,7 @@ const FRONT: [u8; 5] = [1, 2, 3, 4, 5];
 /// A move before others.
 const FIRST: Move = Move { node: 7, amount: 9 };
 
-/// Whether a call went through, and how much it appended.
+/// Whether a call succeeded, and how much it appended.
 pub type Left = (bool, usize);
 
 /// The same, over the table of the sample image.
@@ -49,7 +49,7 @@ fn answered<A: Allocator>(alloc: A, table: &Table<A>, job: &Job<'_>) -> Option<L
         .then_some((told, appended))
 }
 
-/// What a job moves, after the first move; none if that is refused, or changed.
+/// The lookups that a job moves, after the first move; none if that is refused, or changed.
 fn moved<A: Allocator>(alloc: A, table: &Table<A>, job: &Job<'_>) -> Option<Left> {
     let mut out = Vec::new(alloc);
     out.push(FIRST).ok()?;
@@ -58,7 +58,7 @@ fn moved<A: Allocator>(alloc: A, table: &Table<A>, job: &Job<'_>) -> Option<Left
     out.starts_with(&[FIRST]).then_some((told, appended))
 }
 
-/// The same of the request of the lookups with this index, over a table.
+/// The same for the request of the lookups with this index, over a table.
 fn appended_over<'a>(
     memories: &'a Memories,
     table: &Table<&'a Refusing<Global>>,

@@ -46,13 +46,13 @@ fn stream_of(alloc: Global, jobs: Jobs) -> Result<Vec<u8>, AllocError> {
     }
 }
 
-/// What the script of lookups gives and takes: the first FORGET takes more from node 6 than it was
-/// given, and the second is too short to take any.
+/// The lookups that the script of lookups gives and takes: the first FORGET takes more from node 6
+/// than it was given, and the second is too short to take any.
 fn sums() -> [Move; 5] {
     [(1, 1), (2, 1), (3, 2), (5, 1), (6, -4)].map(|(node, amount)| Move { node, amount })
 }
 
-/// Whether a round gave the replies to these jobs, and the sums of their moves. Only the length of
+/// Whether a round has the replies to these jobs, and the sums of their moves. Only the length of
 /// lookups is compared.
 fn is_right<A: Allocator>(rounded: &Rounded<A>, jobs: Jobs, replies: &[u8]) -> bool {
     let bytes = rounded.bytes.as_slice();
@@ -64,7 +64,7 @@ fn is_right<A: Allocator>(rounded: &Rounded<A>, jobs: Jobs, replies: &[u8]) -> b
     }
 }
 
-/// Whether a round of jobs over a table gives the right result, and the work that passes its gate.
+/// Whether a round of jobs over a table has the right result, and the work that passes its gate.
 fn round_over<'a, R: Threads + Sync>(
     rt: &R,
     memories: &'a Memories,
@@ -80,7 +80,7 @@ fn round_over<'a, R: Threads + Sync>(
     Some(round_to(rt, memories, table, (jobs, &requests, &replies), plan))
 }
 
-/// The same of these requests, with the script's replies.
+/// The same for these requests, with the script's replies.
 fn round_to<'a, R: Threads + Sync>(
     rt: &R,
     memories: &'a Memories,

@@ -28,7 +28,7 @@ struct Drawn {
     hand: Hand,
 }
 
-/// A promise to give back the hand that was lent.
+/// A promise to return the hand that was lent.
 #[derive(Drop)]
 struct SameHand(Snapshot<Hand>);
 
@@ -36,7 +36,7 @@ impl Promise<Drawn> for SameHand {
     ghost kept_by = { λ lent back. GivesBack lent.0.value back.hand };
 }
 
-/// Draws until all numbers are gone and all misses of the hand are spent.
+/// Draws until all numbers and all misses of the hand are used up.
 fn draw_all(alloc: Global, board: &Board<Global>, mut hand: Hand) -> Drawn
     requires { IsHandOf board.now hand }
     ensures { KeepsShare board.now hand result.hand }
@@ -134,7 +134,7 @@ fn draw_in<R: Threads + Wait + Sync>(
     )
 }
 
-/// Lets this many threads draw, each with this many misses. Says whether they drew each number
+/// Lets this many threads draw, each with this many misses. Returns whether they drew each number
 /// once, and took a step for each number and each miss.
 fn draws_each_once<R: Threads + Wait + Sync>(
     rt: &R,
@@ -142,7 +142,7 @@ fn draws_each_once<R: Threads + Wait + Sync>(
     threads: u32,
     misses: u32,
 ) -> Result<bool, AllocError> {
-    // A board has one miss at least.
+    // A board has at least one miss.
     let all_misses = threads.saturating_mul(misses).max(1);
     let (board, first) = Board::start(alloc, TOTAL, all_misses)?;
     let Drawn { numbers, hand } = draw_in(rt, alloc, &board, first, threads, misses);

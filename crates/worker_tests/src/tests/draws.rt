@@ -1,11 +1,11 @@
-//! One thread draws through one hand or two, and memory that is refused.
+//! One thread draws through one hand or two, and memory is refused.
 
 use draw_board::{Board, Few};
 use std::test::Fail;
 use test_kit::memories::refuse_in_turn;
 use test_kit::refusing::Refusing;
 
-/// No call but the start takes memory.
+/// Only the start takes memory.
 #[test]
 fn two_hands_share_three_numbers(rt: HostRuntime) -> Result<(), Fail> {
     let memory = Refusing::new(rt.alloc(), 0);

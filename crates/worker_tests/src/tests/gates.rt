@@ -32,7 +32,7 @@ fn is_given_up_over<R: Threads + Sync>(
     is_given_up_in(rt, alloc, table, requests.get(..jobs)?, plan, gate)
 }
 
-/// The same of these jobs.
+/// The same for these jobs.
 fn is_given_up_in<R: Threads + Sync>(
     rt: &R,
     alloc: Global,
@@ -82,7 +82,7 @@ fn no_third_worker_is_there(rt: HostRuntime) {
     assert_eq!(rt; is_given_up(&rt, rt.alloc(), 3, &gate), Some(true));
 }
 
-/// A worker asks for memory for its answers alone, and passes the gate of its only batch before.
+/// A worker takes memory only for its answers, and passes the gate of its only batch before.
 #[test]
 fn a_batch_is_answered_behind_its_gate(rt: HostRuntime) {
     let memories = Memories::new(rt.alloc(), 0);
@@ -114,7 +114,7 @@ fn spreads<R: Threads + Sync>(
     Ok(spread.is_ok())
 }
 
-/// Of 24 requests of a stream as many are under way at a time as the plan has workers.
+/// Of 24 requests of a stream, as many are under way at a time as the plan has workers.
 #[test]
 fn sixteen_workers_answer_a_stream(rt: HostRuntime) -> Result<(), Fail> {
     let global = rt.alloc();

@@ -15,13 +15,13 @@ enum Call {
     Round((u32, u32)),
     /// One worker that answers all batches.
     Work,
-    /// The answer to the request with this index, or what it moves.
+    /// The answer to the request with this index, or the lookups that it moves.
     Answer(usize),
     Moves(usize),
 }
 
-/// Whether an answer, or what it moves, is appended in full, or nothing if memory was refused. The
-/// first request is for what precedes it.
+/// Whether an answer, or the lookups that it moves, is appended in full, or nothing if memory was
+/// refused. The first request is for what precedes it.
 fn is_left<R: Threads + Sync>(rt: &R, memories: &Memories, index: usize, moves: bool) -> bool {
     let whole = appended(rt, &Memories::new(memories.global, 0), index, moves);
     let left = appended(rt, memories, index, moves);
@@ -32,7 +32,7 @@ fn is_left<R: Threads + Sync>(rt: &R, memories: &Memories, index: usize, moves: 
     }
 }
 
-/// Whether a call reports that memory was refused, or else gives the right result.
+/// Whether a call reports that memory was refused, or otherwise returns the right result.
 fn is_told<R: Threads + Sync>(rt: &R, memories: &Memories, call: Call) -> bool {
     let refusing = &memories.refusing;
     match call {

@@ -31,7 +31,7 @@ struct Done {
     hand: Hand,
 }
 
-/// A promise to give back the hand that was lent.
+/// A promise to return the hand that was lent.
 #[derive(Drop)]
 struct SameHand(Snapshot<Hand>);
 
@@ -61,8 +61,8 @@ fn batches_in(jobs: usize) -> u32
     ((jobs + size - 1) / size) as u32
 }
 
-/// How many pieces one worker answers this many requests of the script with, and how often it
-/// draws; over a table.
+/// How many pieces one worker makes for this many requests of the script, and how often it draws;
+/// over a table.
 fn pieces_over<R: Threads + Sync, G: Gate>(
     rt: &R,
     memories: &Memories,
@@ -77,7 +77,7 @@ fn pieces_over<R: Threads + Sync, G: Gate>(
     pieces_to(rt, memories, table, requests.get(..jobs)?, gate)
 }
 
-/// The same to these requests.
+/// The same for these requests.
 fn pieces_to<R: Threads + Sync, G: Gate>(
     rt: &R,
     memories: &Memories,
@@ -152,7 +152,7 @@ fn work_out<R: Threads + Sync>(
     Done { pieces, hand }
 }
 
-/// Two threads work, and give back all pieces and one hand.
+/// Two threads work, and return all pieces and one hand.
 fn work_in_two<R: Threads + Wait + Sync>(
     rt: &R,
     alloc: Global,

@@ -1,7 +1,7 @@
 use Rattle.std.proofs.Common.{◌≡◌, ◌+◌, ◌-◌, ◌≤◌, take, vec_len, vec_capacity}
 use Rattle.fuse_wire.proofs.replies.put_zeros.Given as goal
 
--- what stood stands in front, and there is room for what is left
+-- the earlier bytes are at the front, and there is room for what is left
 abbrev pub invariant-loop-left : goal.invariant-loop-left
 invariant-loop-left g l = record {
   before : take (vec_len l.fn.bytes) l.bytes.items ≡ l.fn.bytes.items;

@@ -31,7 +31,7 @@ find_by_name-requires-clause-narrows g c =
     (c.key_of-key.ensures
     ∙ ap (key 8) (take_rest c.args.name.now c.args.shared)) c.run_of-low.ensures
 
--- a row stands at the place that is left, and what was read of it is the name at that place
+-- there is a row at the remaining place, and what was read of it is the name at that place
 at_low : (g : Over) (c : After-index-rows-low g) (name : List ℕ) → name ≡ g.T.HasName.name c.index-rows-low.result
     → (c.run_of-low.result.0 < length (map g.T.HasName.name c.args.rows.now))
     × (slice_index_or (map g.T.HasName.name c.args.rows.now) c.run_of-low.result.0 [] ≡ name)

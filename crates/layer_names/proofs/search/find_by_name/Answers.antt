@@ -13,7 +13,7 @@ use Rattle.layer_names.proofs.search.find_by_name.Goals as goal
 abbrev middle : ℕ → ℕ → ℕ
 middle low high = low + (high - low) / 2
 
--- a row stands there, and what was read of it is the name at that place
+-- there is a row there, and what was read of it is the name at that place
 at_middle : (g : Over) (c : After-index-rows-middle g) (name : List ℕ) → name ≡ g.T.HasName.name c.index-rows-middle.result
     → (middle c.loop-low.low c.loop-low.high < length c.args.rows.now)
     × (slice_index_or (map g.T.HasName.name c.args.rows.now) (middle c.loop-low.low c.loop-low.high) [] ≡ name)

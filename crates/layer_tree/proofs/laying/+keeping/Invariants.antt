@@ -36,7 +36,7 @@ invariant-kept_below-loop-low g l = Keeping l.fn.lows.items l.lows.items l.kept.
 abbrev pub decreases-kept_below-loop-low : goal.decreases-kept_below-loop-low
 decreases-kept_below-loop-low g l = length l.lows.items
 
--- of the branches there is what the marks behind those that are left leave
+-- of the branches there is what the marks after those that are left leave
 abbrev pub invariant-kept_by_few-loop-mark : goal.invariant-kept_by_few-loop-mark
 invariant-kept_by_few-loop-mark g l = Picking l.fn.lows.items l.lows.items l.marks l.left
 

@@ -8,7 +8,7 @@ use Rattle.node_table.specs.Agreement.{AgreeWithListing}
 use Rattle.node_table.proofs.Made.{Making}
 use Rattle.node_table.proofs.building.make.Given as goal
 
--- first branches stand at their places, and agree with a listing; those so far have nodes
+-- first branches are at their places, and agree with a listing; those so far have nodes
 abbrev pub invariant-loop-at : goal.invariant-loop-at
 invariant-loop-at g l = (first : List (Visit Entry)) × (entries : List Listed)
     × AgreeWithListing (stacked l.images entries) (number_among l.walk.visits.items)

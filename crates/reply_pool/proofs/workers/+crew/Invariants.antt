@@ -1,7 +1,7 @@
 use Rattle.std.proofs.Common.{◌*◌, ◌+◌}
 use Rattle.reply_pool.proofs.workers.+crew.Given as goal
 
--- its workers, twice over: between two calls stands a thread
+-- its workers, twice over: there is a thread between two calls
 abbrev pub decreases-draw_all : goal.decreases-draw_all
 decreases-draw_all g l = 2 * l.workers
 

@@ -1,7 +1,7 @@
 use Rattle.std.proofs.Common.{◌*◌, ◌+◌}
 use Rattle.romfs_files.proofs.images.+halves.Given as goal
 
--- how often its run may be cut yet, twice over: between two calls stands a thread
+-- how often its run may still be cut, times two: there is a thread between two calls
 abbrev pub decreases-load_from : goal.decreases-load_from
 decreases-load_from g l = 2 * l.forks
 

@@ -3,7 +3,7 @@ use Rattle.std.specs.Vec.Iter.{into_iter_items}
 use Rattle.romfs_files.specs.Loaded.{files_of}
 use Rattle.romfs_files.proofs.loaded.apart.Given as goal
 
--- the images so far are taken apart, and the others are left
+-- the images so far are split, and the others are left
 abbrev pub invariant-loop-image : goal.invariant-loop-image
 invariant-loop-image g l =
     let left = into_iter_items l.image-iterator in

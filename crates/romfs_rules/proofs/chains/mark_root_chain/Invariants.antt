@@ -3,7 +3,7 @@ use Rattle.romfs_sets.proofs.Marks.{unmarked}
 use Rattle.romfs_rules.proofs.RootWalk.{Walked}
 use Rattle.romfs_rules.proofs.chains.mark_root_chain.Given as goal
 
--- the walk along the root's chain stands here, at a word, with these marks
+-- the walk along the root's chain is here, at a word, with these marks
 abbrev pub invariant-loop-marks : goal.invariant-loop-marks
 invariant-loop-marks g l = record { walked : Walked l.volume.bytes.now l.marks l.at; narrow : l.at < 2 ^ 32 }
 

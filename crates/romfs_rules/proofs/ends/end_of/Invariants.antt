@@ -3,7 +3,7 @@ use Rattle.romfs_format.specs.Links.{IsTarget}
 use Rattle.romfs_rules.proofs.EndWalk.{Going, Passing, unmarked}
 use Rattle.romfs_rules.proofs.ends.end_of.Given as goal
 
--- the walk stands at a target, over the same set, and has kept earlier marks
+-- the walk is at a target, over the same set, and has kept earlier marks
 abbrev pub invariant-loop-walks : goal.invariant-loop-walks
 invariant-loop-walks g l = record {
   target : IsTarget l.volume.bytes.now l.at;

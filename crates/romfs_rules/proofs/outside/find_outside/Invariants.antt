@@ -4,7 +4,7 @@ use Rattle.romfs_rules.specs.Outside.{IsBeforeRoot, IsPastEnd}
 use Rattle.romfs_rules.proofs.Reach.{IsFoundBefore}
 use Rattle.romfs_rules.proofs.outside.find_outside.Given as goal
 
--- the least on each side of what headers below the next slot, behind the root's, lead to is found
+-- the least on each side of what headers below the next slot, after the root's, lead to is found
 abbrev pub invariant-loop-slot : goal.invariant-loop-slot
 invariant-loop-slot g l = record {
   behind : root l.fn.volume.bytes.now < l.from * 16;

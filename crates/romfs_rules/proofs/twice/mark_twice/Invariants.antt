@@ -3,7 +3,7 @@ use Rattle.romfs_format.specs.Fields.{root}
 use Rattle.romfs_rules.proofs.Counted.{Tallied, Below}
 use Rattle.romfs_rules.proofs.twice.mark_twice.Given as goal
 
--- the links below the next slot, which is behind the root's, are tallied
+-- the links below the next slot, which is after the root's, are tallied
 abbrev pub invariant-loop-slot : goal.invariant-loop-slot
 invariant-loop-slot g l = record {
   behind : root l.volume.bytes.now < l.from * 16;

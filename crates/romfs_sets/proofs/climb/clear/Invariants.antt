@@ -2,7 +2,7 @@ use Rattle.std.proofs.Common.{◌≡◌, length, drop}
 use Rattle.romfs_sets.proofs.Rounds.{IsClearing}
 use Rattle.romfs_sets.proofs.climb.clear.Given as goal
 
--- the points before this one are cleared; what was entered and noted is as it was
+-- the points before this one are cleared; what was entered and noted is unchanged
 abbrev pub invariant-loop-at : goal.invariant-loop-at
 invariant-loop-at g l = record {
   clearing : IsClearing l.graph.class.items l.found.low.items (drop l.at-index l.cycle);

@@ -46,7 +46,7 @@ returns-then-got-eq0-clause-run g c =
     over_cut_off _ _ _ _ _ _ _ _ c.loop-turn.invariant.0 _ _ _ c.requires.devices c.loop-turn-test.true c.in_ok-make_room.ensures.rest _
     c.in-Ok.ensures.pull c.if-got-eq0.true _ c.rest.ensures _ c.is_empty.ensures _ c.if-is_empty.false
 
--- what a pull gave stands behind what was left
+-- what a pull gave follows what was left
 fed_now : (g : Over) (c : In-Ok g) → (c.in-Ok.got ≡ 0 → ⊥)
     → IsFollowed (g.T.AnswersRounds.answering c.args.answers.now) (g.T.AnswersRounds.nodes c.args.answers.now) c.args.until
     (devices (g.S.Source.state c.args.source.now) (g.K.Sink.state c.args.sink.now)) c.loop-turn._turn

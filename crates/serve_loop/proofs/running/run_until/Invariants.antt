@@ -3,7 +3,7 @@ use Rattle.serve_loop.specs.Steps.{serving_state, IsInOrder}
 use Rattle.serve_loop.proofs.Openings.{IsAwaiting}
 use Rattle.serve_loop.proofs.running.run_until.Given as goal
 
--- all that is whole was answered, and more is awaited
+-- everything complete was answered, and more is awaited
 abbrev pub invariant-loop-turn : goal.invariant-loop-turn
 invariant-loop-turn g l =
     IsAwaiting (g.T.AnswersRounds.answering l.answers) (g.T.AnswersRounds.nodes l.answers) l.until

@@ -1,7 +1,7 @@
 use Rattle.std.proofs.Common.{◌*◌, ◌+◌}
 use Rattle.stack_prepare.proofs.checking.+halves.Given as goal
 
--- how often its run may be cut yet, twice over: between two calls stands a thread
+-- how often its run may still be cut, twice over: there is a thread between two calls
 abbrev pub decreases-check_from : goal.decreases-check_from
 decreases-check_from g l = 2 * l.forks
 

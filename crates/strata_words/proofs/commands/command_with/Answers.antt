@@ -10,7 +10,7 @@ use Rattle.strata_words.proofs.commands.command_with.Goals as goal
 pub loop-argument-init : goal.loop-argument-init
 loop-argument-init c = ap app_of_fields c.about-command.ensures ∙ c.new.ensures.app
 
--- what stands past the end of a list of arguments
+-- the element after the end of a list of arguments
 abbrev nothing : Argument
 nothing = record {
   name = record { ref_ptr = (0, 0); now = [] };

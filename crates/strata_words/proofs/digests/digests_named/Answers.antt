@@ -4,7 +4,7 @@ use Rattle.clap.specs.Walk.{Text}
 use Rattle.strata_words.proofs.Named.{goes_on, not_named}
 use Rattle.strata_words.proofs.digests.digests_named.Goals as goal
 
--- what stands past the end of a list of texts
+-- the element after the end of a list of texts
 abbrev nothing : Bor Text
 nothing = record { ref_ptr = (0, 0); now = [] }
 

@@ -3,7 +3,7 @@ use Rattle.romfs_format.specs.Fields.{root}
 use Rattle.romfs_rules.specs.Judge.{KeepsBelow}
 use Rattle.romfs_rules.proofs.judge.Sets.fault_inside.Given as goal
 
--- the headers below the next slot, which is behind the root's, keep the rules
+-- the headers below the next slot, which is after the root's, keep the rules
 abbrev pub invariant-loop-slot : goal.invariant-loop-slot
 invariant-loop-slot g l = record {
   behind : root l.self < l.from * 16;

@@ -4,7 +4,7 @@ use Rattle.romfs_rules.proofs.PlainChain.{Chained}
 use Rattle.romfs_sets.proofs.Marks.{unmarked}
 use Rattle.romfs_rules.proofs.plain.Walk.is_plain_chain.Given as goal
 
--- the headers before the next one were passed, and this is what their names are mixed to
+-- the headers before the next one were passed, and these are the hashes of their names
 abbrev pub invariant-loop-next : goal.invariant-loop-next
 invariant-loop-next g l = record {
   chained : Chained l.volume.bytes.now l.folder l.fn.self (record {

@@ -1,7 +1,7 @@
 use Rattle.std.proofs.Common.{rules, sym, subst, refl, Result, Ok}
 use Rattle.fuse_answer.specs.Puts.{sourced_by}
 use Rattle.serve_device.specs.MountEnds.{ends}
-use Rattle.serve_core.specs.declared.stop.Stop.{Stop}
+use Rattle.serve_loop.specs.declared.stream_fault.StreamFault.{StreamFault}
 use Rattle.serve_core.specs.Headline.{bounds_over}
 use Rattle.serve_core.specs.Openings.{IsNotOpenedOver, IsOpenedOver}
 use Rattle.serve_loop.specs.declared.done.Done.{Done}
@@ -18,7 +18,7 @@ returns g c =
     let by = sourced_by g.D.Contents.source c.args.served in
     let within = bounds_over c.args.terms.now.turns c.args.terms.now.counted by in
     let opened_so = λ (o : Opening g.row.A.Denot). Does (λ t. IsOpenedOver first by within t (Ok o)) old new in
-    let ended_so = λ (r : Result (Done g.row.A.Denot) Stop). Does (λ t. IsNotOpenedOver first by within t r) old new in
+    let ended_so = λ (r : Result (Done g.row.A.Denot) StreamFault). Does (λ t. IsNotOpenedOver first by within t r) old new in
     elim c.match-opened.branch [
       | in-Ok-Ended w ↦ record {
         result = c.match-opened.ended;

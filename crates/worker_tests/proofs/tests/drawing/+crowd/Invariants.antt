@@ -1,7 +1,7 @@
 use Rattle.std.proofs.Common.{◌*◌, ◌+◌}
 use Rattle.worker_tests.proofs.tests.drawing.+crowd.Given as goal
 
--- its threads, twice over: between two calls stands a scope
+-- its threads, twice over: there is a scope between two calls
 abbrev pub decreases-draw_in : goal.decreases-draw_in
 decreases-draw_in g l = 2 * l.threads
 
