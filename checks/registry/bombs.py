@@ -15,8 +15,10 @@ from checks.registry.rooms import MOUNT, Failed, hold
 from strata_format import romfs
 from strata_layers import packing
 
-# what a pull may take of memory, over what this process has already
+# what a pull may hold of memory, over what this process holds already
 ROOM = 96 << 20
+# what it may reserve, most of which threads never use
+RESERVED = 1 << 30
 FOLDERS, NAMES = 400, 3000
 MIB = bytes(1 << 20)
 SHARED = "%s: a store must be its user's own, and others may write in this folder"
@@ -60,15 +62,17 @@ def layout_of(room, pieces):
 
 
 def bounded(room, *words):
-    """A run with little memory."""
+    """A run that holds little memory."""
     with open("/proc/self/statm", encoding="ascii") as it:
-        most = int(it.read().split()[0]) * resource.getpagesize() + ROOM
+        size, held = (int(word) * resource.getpagesize() for word in it.read().split()[:2])
     before = resource.getrlimit(resource.RLIMIT_AS)
-    resource.setrlimit(resource.RLIMIT_AS, (most, before[1]))
+    resource.setrlimit(resource.RLIMIT_AS, (size + RESERVED, before[1]))
     try:
-        return room.tried(*words)
+        done = room.tried(*words)
     finally:
         resource.setrlimit(resource.RLIMIT_AS, before)
+    hold("memory of a run, above %d bytes" % ROOM, 0, max(0, done.resident - held - ROOM))
+    return done
 
 
 def keywords():

@@ -135,7 +135,7 @@ def hold_full(room, done, *words):
     """A command of strata-layers whose standard output takes nothing fails with a line that says what is done
     nevertheless."""
     with open("/dev/full", "wb") as full, tempfile.TemporaryFile() as errors:
-        status = room.forked(list(words), full, errors)
+        status, _ = room.forked(list(words), full, errors)
         told = os.pread(errors.fileno(), 1 << 16, 0).decode()
     line = "tools/layers.py: /dev/stdout: %s%s\n" % (NO_SPACE, "; " + done if done else "")
     hold(" ".join(words), (1, line), (status, told))

@@ -21,7 +21,8 @@ TREE = ".verity"
 # what hangs is ended after so many seconds
 SECONDS = 300
 
-Done = namedtuple("Done", "returncode stdout stderr")
+# `resident`: the most memory that the run held, in bytes
+Done = namedtuple("Done", "returncode stdout stderr resident")
 
 
 class Failed(Exception):
@@ -77,15 +78,16 @@ class Room:
         """The tool as it is run by its name, but that Python has begun already."""
         words = [verb, "--store", store or self.store, *words]
         with tempfile.TemporaryFile() as out, tempfile.TemporaryFile() as errors:
-            status = self.forked(words, out, errors)
-            return Done(status, *(os.pread(it.fileno(), 1 << 20, 0).decode() for it in (out, errors)))
+            status, resident = self.forked(words, out, errors)
+            return Done(status, *(os.pread(it.fileno(), 1 << 20, 0).decode() for it in (out, errors)), resident)
 
     def forked(self, words, out, errors):
-        """The status of the tool, with open files as its ends."""
+        """The status of the tool, with open files as its ends, and the most memory that it held."""
         child = os.fork()
         if child == 0:
             self.become_tool(words, out.fileno(), errors.fileno())
-        return os.waitstatus_to_exitcode(os.waitpid(child, 0)[1])
+        _, status, usage = os.wait4(child, 0)
+        return os.waitstatus_to_exitcode(status), usage.ru_maxrss << 10
 
     def become_tool(self, words, out, errors):
         status = 99
