@@ -30,6 +30,8 @@ ALONE, WITH_PACKAGES = "IBS", "IB"
 MODULES = "lib/strata"
 # the folder of pages and pictures, and what stands there beside those of docs/
 DOCUMENTS, BESIDE = "share/doc/strata", ("README.md", "LICENSE-MIT", "LICENSE-APACHE")
+# what recipes are shown on
+SAMPLES = "demo"
 # the snapshotter's own page, to which a link leads from its folder
 SNAPSHOTTER_DOCUMENT = "CONTAINERD.md"
 COMPLETIONS = {
@@ -116,6 +118,13 @@ def documents(packed_place):
         yield Entry(place, 0o644, links.relinked(data.decode(), name, linked).encode() if name.endswith(".md") else data)
 
 
+def samples():
+    """The images, the layout and the requests on which pages show the programs."""
+    for folder, _, names in os.walk(os.path.join(ROOT, SAMPLES)):
+        for place in (os.path.relpath(os.path.join(folder, name), ROOT) for name in names):
+            yield Entry("%s/%s" % (DOCUMENTS, place), 0o644, read(place))
+
+
 def entries(program, python, is_compiled=True, packed_place=str):
     """All that is installed, in the order of paths: the program from this file, and what depends on this python3, with its
     modules compiled for it. `packed_place` says where a package has what is installed at a path."""
@@ -125,7 +134,7 @@ def entries(program, python, is_compiled=True, packed_place=str):
     found.append(Entry("sbin/mount.fuse.strata", 0o777, link="mount.strata"))
     found.append(Entry(MODULES + "/version", 0o644, version().encode() + b"\n"))
     found += compiled(python) if is_compiled else []
-    return sorted([*found, *modules(PACKAGES), *pages(), *completions(), *documents(packed_place)])
+    return sorted([*found, *modules(PACKAGES), *pages(), *completions(), *documents(packed_place), *samples()])
 
 
 def snapshotter_entries(python):

@@ -17,7 +17,8 @@ PATHS = ("bin/strata", "bin/strata-mount", "bin/strata-layers", "sbin/mount.stra
          "share/man/man5/strata-attributes.5", "share/man/man8/mount.strata.8",
          "share/man/man8/mount.fuse.strata.8", "share/doc/strata/README.md", "share/doc/strata/USE.md",
          "share/doc/strata/MOUNTING.md", "share/doc/strata/LIMITS.md", "share/doc/strata/ENGINES.md",
-         "share/doc/strata/PROMISES.md", "share/doc/strata/SPEED.md")
+         "share/doc/strata/PROMISES.md", "share/doc/strata/SPEED.md", "share/doc/strata/demo/lower.romfs",
+         "share/doc/strata/demo/layout/index.json")
 
 
 # the package of the snapshotter, which is made beside that of strata
