@@ -68,10 +68,10 @@ def bounded(room, *words):
     before = resource.getrlimit(resource.RLIMIT_AS)
     resource.setrlimit(resource.RLIMIT_AS, (size + RESERVED, before[1]))
     try:
-        done = room.tried(*words)
+        done, resident = room.measured(*words)
     finally:
         resource.setrlimit(resource.RLIMIT_AS, before)
-    hold("memory of a run, above %d bytes" % ROOM, 0, max(0, done.resident - held - ROOM))
+    hold("memory of a run, above %d bytes" % ROOM, 0, max(0, resident - held - ROOM))
     return done
 
 

@@ -21,8 +21,7 @@ TREE = ".verity"
 # what hangs is ended after so many seconds
 SECONDS = 300
 
-# `resident`: the most memory that the run held, in bytes
-Done = namedtuple("Done", "returncode stdout stderr resident")
+Done = namedtuple("Done", "returncode stdout stderr")
 
 
 class Failed(Exception):
@@ -76,10 +75,15 @@ class Room:
 
     def tried(self, verb, *words, store=None):
         """The tool as it is run by its name, but that Python has begun already."""
+        return self.measured(verb, *words, store=store)[0]
+
+    def measured(self, verb, *words, store=None):
+        """The same, and the most memory that it held."""
         words = [verb, "--store", store or self.store, *words]
         with tempfile.TemporaryFile() as out, tempfile.TemporaryFile() as errors:
             status, resident = self.forked(words, out, errors)
-            return Done(status, *(os.pread(it.fileno(), 1 << 20, 0).decode() for it in (out, errors)), resident)
+            told = [os.pread(it.fileno(), 1 << 20, 0).decode() for it in (out, errors)]
+        return Done(status, *told), resident
 
     def forked(self, words, out, errors):
         """The status of the tool, with open files as its ends, and the most memory that it held."""
