@@ -338,7 +338,8 @@ def test_image_of_a_large_folder(room):
         with open(os.path.join(folder, name), "wb") as out:
             out.truncate(2 ** 31 - 200)
     refuse_image(room, (folder, image),
-                 "c: the image would be larger than 4294967280 bytes with its attributes")
+                 "c: the image would be larger than 4294967280 bytes with its attributes; "
+                 "strata-layers convert splits large layers of container images")
 
 
 def test_image_of_an_archive(room):

@@ -42,7 +42,8 @@ def test_large(room):
     info.size = 2 ** 32 - 16 - 96 - 64 - 32 - 80
     room.refuse("layer 0: the archive is truncated", info.tobuf(GNU))
     info.size += 1
-    room.refuse("layer 0: large: the image would be larger than 4294967280 bytes with its attributes", info.tobuf(GNU))
+    room.refuse("layer 0: large: the image would be larger than 4294967280 bytes with its attributes; "
+                 "strata-layers convert splits large layers of container images", info.tobuf(GNU))
     info.size = 2 ** 40
     room.refused(layout_of(room.name(), [info.tobuf(GNU)]).path,
                  "layer 0: large: a file of 1099511627776 bytes, at most 4294967280 are held",

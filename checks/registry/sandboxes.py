@@ -78,6 +78,9 @@ def check_users_of_sandboxes(room):
         command, fault = told(room, [], at)
         hold("told for %r" % user, "", fault)
         hold("what %r reads" % user, wanted, ran(room, [], command))
+    at = mounted(room, "image:app")
+    line = "%s%s: mounted without allow_other, so the image's user 4321:0 cannot read it; mount it with -o allow_other\n"
+    hold("a mount for root alone", (None, line % (NAME, at)), told(room, [], at))
 
 
 def check_users_of_other_callers(room):

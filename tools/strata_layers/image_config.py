@@ -1,12 +1,15 @@
 """What an image's configuration says of how it is run, for people and for the programs that run
 it."""
 import json
+import os
 import shlex
 
-from strata_format.refused import Refused
+from strata_format.refused import Refused, shown
 from strata_layers import user_namespace
 
 HOME = "HOME"
+# options of bwrap that are followed by a place outside
+BINDS = ("--bind", "--bind-try", "--dev-bind", "--dev-bind-try", "--ro-bind", "--ro-bind-try")
 OUTSIDE = "run it outside, or in one that has him and his groups"
 
 
@@ -89,6 +92,28 @@ def become(user, caller):
     return ["setpriv", "--reuid", str(user.uid), "--regid", str(user.gid), *groups, "--inh-caps=-all"]
 
 
+def closed_devices():
+    """The device numbers of FUSE mounts that only the user may read who mounted them."""
+    with open("/proc/self/mountinfo", encoding="utf-8", errors="replace") as mounts:
+        for line in mounts:
+            front, _, behind = line.partition(" - ")
+            kind, *_, options = behind.split()
+            if kind.partition(".")[0] == "fuse" and "allow_other" not in options.split(","):
+                yield front.split()[2]
+
+
+def hold_open(options, user):
+    """Looks that what options of bwrap bind can be read by another user than who mounted it."""
+    closed = {*closed_devices()}
+    for option, place in zip(options, options[1:]):
+        if option not in BINDS or not os.path.exists(place):
+            continue
+        device = os.stat(place).st_dev
+        if "%d:%d" % (os.major(device), os.minor(device)) in closed:
+            raise Refused("%s: mounted without allow_other, so the image's user %d:%d cannot read it; mount it with"
+                          " -o allow_other" % (shown(os.fsencode(place)), user.uid, user.gid))
+
+
 def renumbered(user, caller):
     """The words of bwrap by which the caller's own rights have the user's numbers in the sandbox."""
     if caller[0] == 0 and not user_namespace.is_callers():
@@ -101,6 +126,8 @@ def bwrap_words(it, user, caller, options, as_caller):
     run as its user, whose home is HOME unless the image says another. No word of the image is taken
     as an option."""
     words = [] if as_caller else become(user, caller)
+    if words:
+        hold_open(options, user)
     words += ["bwrap", *options, *(renumbered(user, caller) if as_caller else []), "--clearenv"]
     variables = it.variables()
     if HOME not in dict(variables):

@@ -27,7 +27,7 @@ def opened_own(place, name, above=None):
     found = os.fstat(number)
     if found.st_uid != os.geteuid() or found.st_mode & OTHERS_WRITE:
         os.close(number)
-        why = "shared mounts are noted in a user's own directory, and others may write to this one"
+        why = "shared mounts are noted here, so it must be your own, and nobody else may write in it"
         raise OSError(0, why, place)
     return number
 
