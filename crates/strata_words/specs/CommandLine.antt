@@ -112,10 +112,11 @@ images_command name = command_with name (flag (codes "as-mounted") ∷ images)
 abbrev pub IsApp : {E : Type 0} → Result Command E → App → Type 0
 IsApp made app = IfOk made (λ command. app_of command ≡ app)
 
--- the program's name, which is no argument; it needs a command, or prints its version
+-- the program's name, which is no argument; it needs a command, or prints its help or version
 abbrev pub top_command : App
 top_command = on_top
-    (λ s. record s { no_binary_name = true; has_version = true; subcommand_required = true })
+    (λ s. record s { no_binary_name = true; has_version = true; disable_help_subcommand = true;
+        subcommand_required = true })
     (new_app (codes "strata"))
 
 -- the program, with its four commands

@@ -157,6 +157,7 @@ pub(crate) fn program<'a>(alloc: Global) -> Result<Command<'a>, AllocError>
         .about("Stacks romfs images and serves the tree over FUSE")
         .after_help(MOUNTING)
         .version(VERSION)
+        .disable_help_subcommand(true)
         .subcommand_required(true);
     let program = with_command(Ok(program), serve(alloc));
     let program = with_command(program, socket(alloc));
