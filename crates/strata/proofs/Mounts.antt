@@ -1,6 +1,7 @@
 -- How a run over an open /dev/fuse ends, by how its last step ended: done, or stopped with a fault, which means an unmount or not.
--- `has_stopped_there` is the main lemma: it has a case for each. `stays` and `goes` say what its status means.
-use Rattle.std.proofs.Common.{◌≡◌, ◌≢◌, ◌∙◌, sym, ap, subst, refl, ℕ, Bool, true, false, inl, inr, List, Option, Some, None, if◌then◌else◌, true≢false}
+-- `has_stopped_there` is the main lemma: it has a case for each. `stays` and `goes` say what its status means; `ran_by` and `ran_without`
+-- join it with what was read from the arguments.
+use Rattle.std.proofs.Common.{◌≡◌, ◌≢◌, ◌∙◌, sym, ap, subst, refl, ℕ, Bool, true, false, inl, inr, List, Option, Some, None, Result, Ok, Err, if◌then◌else◌, true≢false}
 use Rattle.std.specs.Io.Buffered.{reader_remaining}
 use Rattle.devices.specs.Counting.{no_pulls, no_pushes}
 use Rattle.devices.specs.States.{SourceState, SinkState, devices, source_state, sink_state}
@@ -15,7 +16,11 @@ use Rattle.strata.specs.declared.faults.Fault.TheVariants.{Usage, RequestsFile, 
 use Rattle.strata.specs.Faults.{status_of}
 use Rattle.strata.specs.Sessions.{status_at}
 use Rattle.strata.specs.Ending.{IsDone, EndsInFault, EndsWith, IsOfSessions, IsOver, IsOverWith}
-use Rattle.strata.specs.Mounts.{is_taken_away, mounted, status_on_device, StopsWhere, IsRunOnDevice, IsTakenAway}
+use Rattle.strata_words.specs.declared.options.Line.{Line}
+use Rattle.strata_words.specs.declared.options.NoLine.{NoLine}
+use Rattle.strata_words.specs.CommandLine.{IsLineOf}
+use Rattle.strata.specs.Ends.{EndStates, Given}
+use Rattle.strata.specs.Mounts.{is_taken_away, mounted, status_on_device, EndsWithoutLine, IsReadOf, IsRunAsSaid, IsRunBy, StopsWhere, IsRunOnDevice, IsTakenAway}
 use Rattle.strata.proofs.Ended.{fault_status}
 use Rattle.strata.proofs.Statuses.{ends_for_words, zero_is_other}
 
@@ -122,3 +127,18 @@ pub new_ends : {R A W : Type 0} (remaining : R → Option (List ℕ)) (tap : Mes
     → sink_state None spout.counts ≡ sink_state None no_pushes → spout_gone spout ≡ false
     → ends remaining tap spout ≡ mounted left
 new_ends remaining tap spout left s a k x = same_ends s k a x
+
+module _ (A : Type 0) (words : List (List ℕ)) (read : Result Line NoLine) where
+  -- a line was read from the arguments, and the program ran by it
+  pub ran_by : (line : Line) (given : Given) (status : ℕ) (ends : EndStates A) → read ≡ Ok line
+      → ((all : List (List ℕ)) → IsLineOf all line → IsRunBy A all line given status ends) → IsReadOf words read
+      → IsRunAsSaid A words given status ends
+  ran_by line given status ends e ran is =
+      let named : IsLineOf words line = subst (λ r. IsReadOf words r) e is in
+      record { read = Ok line; by = (named, ran words named) }
+
+  -- the arguments have no line, and the program ended for that
+  pub ran_without : (no_line what : NoLine) (given : Given) (status : ℕ) (ends : EndStates A) → read ≡ Err no_line → no_line ≡ what
+      → EndsWithoutLine what given status ends → IsReadOf words read → IsRunAsSaid A words given status ends
+  ran_without no_line what given status ends e same ended is =
+      record { read = Err what; by = (subst (λ r. IsReadOf words r) (e ∙ ap Err same) is, ended) }

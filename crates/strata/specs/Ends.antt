@@ -13,25 +13,24 @@ pub data EndStates (A : Type 0) : Type 0 where
   device : MountEnds → EndStates A
   readers : List (SeatState A) → EndStates A
 
--- what is known about the ends that a run got: what is left in the reader, what the writer holds,
--- and what is left in the reader that several share
+-- what is known about the ends that a run got: what is left in the reader, and what the writer
+-- holds
 pub record Given : Type 0 where
   pub left : Option (List ℕ)
   pub held : Option (List ℕ)
-  pub shared : Option (List ℕ)
 
 -- the same, from its parts
-abbrev pub given : Option (List ℕ) → Option (List ℕ) → Option (List ℕ) → Given
-given left held shared = record { left = left; held = held; shared = shared }
+abbrev pub given : Option (List ℕ) → Option (List ℕ) → Given
+given left held = record { left = left; held = held }
 
 -- the states of these ends, by what their readers have left and their writers hold
-abbrev pub end_states : {I O X Y A : Type 0} → (I → Option (List ℕ)) → (O → Option (List ℕ))
-    → (X → Option (List ℕ)) → Ends I O X Y A → EndStates A
-end_states remaining contents shared left.Unused = unused
-end_states remaining contents shared (left.Streams input output) =
+abbrev pub end_states : {I O A : Type 0} → (I → Option (List ℕ)) → (O → Option (List ℕ))
+    → Ends I O A → EndStates A
+end_states remaining contents left.Unused = unused
+end_states remaining contents (left.Streams input output) =
     streams (devices (source_state (remaining input.reader) input.counts)
     (sink_state (contents output.writer) output.counts))
-end_states remaining contents shared (left.Device input output) =
+end_states remaining contents (left.Device input output) =
     device (ends remaining input output)
-end_states remaining contents shared (left.Readers seats) =
-    readers (map (seat_of shared) seats.items)
+end_states remaining contents (left.Readers seats) =
+    readers (map (seat_of remaining) seats.items)

@@ -84,7 +84,7 @@ pub record IsRunBy (A : Type 0) (words : List (List ℕ)) (line : Line) (given :
     (ends : EndStates A) : Type 0 where
   pub device : line.device ≡ true → line.readers ≤ 1 → IsRunMounted A words status given.left ends
   pub readers : line.device ≡ true → 1 < line.readers
-      → IsRunByReaders A status line given.shared ends
+      → IsRunByReaders A status line given.left ends
   pub streams : line.device ≡ false
       → IsRunStreamed A words status (new_devices given.left given.held) ends
 
@@ -96,6 +96,10 @@ EndsWithoutLine none.Version given status (streams new) =
     × TellsVersion status (sink_state given.held no_pushes) new.sink
 EndsWithoutLine (none.Fault fault) given status unused = status ≡ status_of (line_told_of fault)
 EndsWithoutLine _ given status _ = ⊥
+
+-- this was read from the arguments: their line, or why they have none
+abbrev pub IsReadOf : List (List ℕ) → Result Line NoLine → Type 0
+IsReadOf words read = MatchResult read (IsLineOf words) (IsNoLine words)
 
 -- the arguments were read, as a line by which the program then ran; or they have none
 pub record IsRunAsSaid (A : Type 0) (words : List (List ℕ)) (given : Given) (status : ℕ)

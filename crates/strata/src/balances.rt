@@ -28,7 +28,6 @@ pub fn tell_balances<F: Write + Drop, A: Allocator>(
     }
 }
 
-// Writes a line for each balance.
 fn put_balances<K: Sink, A: Allocator>(
     alloc: A,
     sink: &mut K,
@@ -44,7 +43,6 @@ fn put_balances<K: Sink, A: Allocator>(
     Ok(put_lines(sink, lines.as_bytes())?)
 }
 
-// A line for each of these balances, with the number of its node.
 fn lines_of<A: Allocator>(alloc: A, balances: &[i128]) -> Result<String<A>, AllocError>
     ensures { IfOk result (λ lines. string_bytes lines ≡ balance_lines 1 balances.now) }
 {

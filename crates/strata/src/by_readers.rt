@@ -9,9 +9,8 @@ ghost use Rattle.strata.specs.Readers.{AreShared, IsNotShared, IsRunByReaders, s
 use crate::ends::{Ends, Ran};
 use crate::faults::Fault;
 use crate::settings::{first_of, plan_of};
-use serve_core::{Counted, FreePass, MAX_TURNS, Served, Terms};
+use serve_core::{Counted, FreePass, MAX_TURNS, Served, SharedAllocator, Terms};
 use serve_device::{End, Seat, end_of_all, seats_over, serve_by_readers};
-use std::alloc::Allocator;
 use std::fs::Files;
 use std::io::{Read, Write};
 use std::os::unix::fs::FileExt;
@@ -28,19 +27,17 @@ use strata_words::Line;
 /// to `faults` after all have ended.
 pub fn mount_by_readers<
     R: Files + Threads + Sync,
-    A: Allocator + Copy + Send + Sync,
-    I: Read + Drop,
-    O: Write + Drop,
-    X: Read + Copy + Send + Drop,
-    Y: Write + Copy + Send + Drop,
+    A: SharedAllocator,
+    I: Read + Copy + Send + Drop,
+    O: Write + Copy + Send + Drop,
     E: Write,
->(rt: &R, alloc: A, line: &Line<'_>, reader: X, writer: Y, faults: &mut E) -> Ran<I, O, X, Y, A>
+>(rt: &R, alloc: A, line: &Line<'_>, reader: I, writer: O, faults: &mut E) -> Ran<I, O, A>
 where
     R::File: FileExt + Send + Sync,
     R::Dir: Send,
     requires { IsInLimits line.now }
-    ensures { IsRunByReaders A result.status line.now (X.remaining reader)
-        (end_states I.remaining O.contents X.remaining result.ends) }
+    ensures { IsRunByReaders A result.status line.now (I.remaining reader)
+        (end_states I.remaining O.contents result.ends) }
 {
     match serve_shared(rt, alloc, line, reader, writer) {
         Ok(seats) => Ran {
@@ -58,7 +55,7 @@ where
 // seats.
 fn serve_shared<
     R: Files + Threads + Sync,
-    A: Allocator + Copy + Send + Sync,
+    A: SharedAllocator,
     I: Read + Copy + Send + Drop,
     O: Write + Copy + Send + Drop,
 >(rt: &R, alloc: A, line: &Line<'_>, reader: I, writer: O) -> Result<Vec<Seat<I, O, A>, A>, Fault>

@@ -17,7 +17,8 @@ use crate::faults::Fault;
 use devices::{Clients, Contents, Listening, Sink, Source, Spout, Tap};
 use node_reader::Table;
 use serve_core::{
-    Counted, Done, FreePass, MAX_TURNS, Plan, Served, Session, StreamFault, Terms, run_from,
+    Counted, Done, FreePass, MAX_TURNS, Plan, Served, Session, SharedAllocator, StreamFault, Terms,
+    run_from,
 };
 use std::alloc::Allocator;
 use std::io::Write;
@@ -63,7 +64,7 @@ pub fn sessions<R: Threads + Sync, A: Allocator + Copy + Send + Sync, E: Write>(
 /// client, and no others are accepted.
 pub fn sessions_from<
     R: Threads + Sync,
-    A: Allocator + Copy + Send + Sync,
+    A: SharedAllocator,
     D: Contents + Sync,
     C: Clients,
     E: Write,
@@ -96,12 +97,7 @@ pub fn sessions_from<
 }
 
 // Serves the session with this number to a client, closes the connection, and returns the status.
-fn serve_session<
-    R: Threads + Sync,
-    A: Allocator + Copy + Send + Sync,
-    D: Contents + Sync,
-    E: Write,
->(
+fn serve_session<R: Threads + Sync, A: SharedAllocator, D: Contents + Sync, E: Write>(
     rt: &R,
     alloc: A,
     served: Served<'_, A, D>,
@@ -137,27 +133,23 @@ fn end_session<A: Allocator, E: Write>(
     }
 }
 
-// Serves a client until its stream ends or stops, between a source and a sink that were not used
-// before.
-fn serve_client<
-    R: Threads + Sync,
-    A: Allocator + Copy + Send + Sync,
-    D: Contents + Sync,
-    S: Source,
-    K: Sink,
->(
+// Serves a client until its stream ends or stops, between the two sides of its connection.
+fn serve_client<'c, R: Threads + Sync, A: SharedAllocator, D: Contents + Sync>(
     rt: &R,
     alloc: A,
     served: Served<'_, A, D>,
     first: Session,
-    source: &mut S,
-    sink: &mut K,
+    source: &mut Tap<&'c UnixStream>,
+    sink: &mut Spout<&'c UnixStream>,
     plan: Plan,
 ) -> Result<Done<A>, StreamFault>
-    requires { AreNew (devices (S.state source.old) (K.state sink.old)) }
+    requires { AreNew (devices (⟦<Tap<&'c UnixStream> as Source>⟧.state source.old)
+        (⟦<Spout<&'c UnixStream> as Sink>⟧.state sink.old)) }
     ensures { Does (λ t. IsSession first (sourced_by D.source served.entry) 0 t result)
-        (devices (S.state source.old) (K.state sink.old))
-        (devices (S.state source.new) (K.state sink.new)) }
+        (devices (⟦<Tap<&'c UnixStream> as Source>⟧.state source.old)
+        (⟦<Spout<&'c UnixStream> as Sink>⟧.state sink.old))
+        (devices (⟦<Tap<&'c UnixStream> as Source>⟧.state source.new)
+        (⟦<Spout<&'c UnixStream> as Sink>⟧.state sink.new)) }
 {
     let terms = Terms {
         first,

@@ -81,7 +81,6 @@ impl Fault {
         self.status()
     }
 
-    // Writes its line.
     fn write_line<W: Write>(&self, writer: &mut W) -> io::Result<()>
         ensures whole { OnOk result (Appends (W.contents writer.old) (W.contents writer.new)
             (fault_text self.now ++ 10 ∷ [])) }
@@ -108,7 +107,6 @@ impl Fault {
     }
 }
 
-// Writes a text and the end of its line.
 fn write_long<W: Write>(writer: &mut W, text: &[u8]) -> io::Result<()>
     ensures whole { OnOk result (Appends (W.contents writer.old) (W.contents writer.new)
         (text.now ++ 10 ∷ [])) }
@@ -119,7 +117,6 @@ fn write_long<W: Write>(writer: &mut W, text: &[u8]) -> io::Result<()>
     write_bytes(writer, b"\n")
 }
 
-// The exit status when a stream stopped.
 fn stop_status(stop: StreamFault) -> u8
     ensures { result ≡ stop_status stop }
 {

@@ -11,8 +11,7 @@ use crate::clients::sessions_from;
 use crate::faults::Fault;
 use crate::settings::{first_of, plan_of};
 use devices::{Contents, Listening};
-use serve_core::Served;
-use std::alloc::Allocator;
+use serve_core::{Served, SharedAllocator};
 use std::fs::{self, Files};
 use std::io::Write;
 use std::net::Net;
@@ -25,7 +24,7 @@ use strata_words::Line;
 /// Checks and stacks the images, binds a socket at the line's path, serves its sessions over the
 /// stack and returns their status. Finally it removes the socket's file. Faults of sessions are
 /// reported as they occur.
-pub fn listen<R: Files + Net + Threads + Sync, A: Allocator + Copy + Send + Sync, E: Write>(
+pub fn listen<R: Files + Net + Threads + Sync, A: SharedAllocator, E: Write>(
     rt: &R,
     alloc: A,
     line: &Line<'_>,
@@ -54,12 +53,7 @@ where
 
 // Binds a socket at a path, serves its sessions, and returns their status. Finally it removes the
 // socket's file.
-fn listen_at<
-    R: Files + Net + Threads + Sync,
-    A: Allocator + Copy + Send + Sync,
-    D: Contents + Sync,
-    E: Write,
->(
+fn listen_at<R: Files + Net + Threads + Sync, A: SharedAllocator, D: Contents + Sync, E: Write>(
     rt: &R,
     alloc: A,
     line: &Line<'_>,

@@ -1,18 +1,18 @@
 //! The commands of the program, over its three standard streams or an open `/dev/fuse`.
 //!
-//! A command does its steps in this order, and the first that fails ends it: it reads its line, the
-//! files of the images, opens the file of requests, creates the files of replies and of balances,
+//! A command does its steps in this order, and the first that fails ends it: it reads the files of
+//! the images, opens the file of requests, creates the files of replies and of balances,
 //! and then does its work. `socket` makes its socket after the images are stacked.
 //!
 //! Its functions repeat the same bounds: no trait can replace those on `R::File` and `R::Dir`.
 
-ghost use Rattle.std.specs.Prelude.{◌≡◌, ℕ, List, map, true, false, Ok, Err, IfOk, IfErr, MatchResult};
+ghost use Rattle.std.specs.Prelude.{◌≡◌, ℕ, List, true, false, Ok, Err, IfOk, IfErr, MatchResult};
 ghost use Rattle.strata_words.specs.CommandLine.{IsInLimits, IsLineOf, NamesSocket};
 ghost use Rattle.devices.specs.States.{devices};
 ghost use Rattle.serve_device.specs.MountEnds.{ends};
 ghost use Rattle.strata.specs.Ending.{AreNew, EndsInFault, IsOverWith, IsRunOf};
 ghost use Rattle.strata.specs.Ends.{end_states, given};
-ghost use Rattle.strata.specs.Mounts.{status_on_device, IsRunAsSaid, IsRunBy, IsRunMounted, IsRunOnDevice};
+ghost use Rattle.strata.specs.Mounts.{status_on_device, IsReadOf, IsRunAsSaid, IsRunBy, IsRunMounted, IsRunOnDevice};
 
 use crate::by_readers::mount_by_readers;
 use crate::ends::{Ends, Ran};
@@ -21,56 +21,52 @@ use crate::listening::listen;
 use crate::serving::serve;
 use crate::version::tell_version;
 use devices::{Sink, Source, Spout, Tap};
-use serve_core::StreamFault;
+use serve_core::{SharedAllocator, StreamFault};
 use serve_device::{MessageTap, ReplySpout};
-use std::alloc::{Allocator, Global};
-use std::convert::AsStr;
 use std::fs::Files;
 use std::io::{Read, Write};
 use std::net::Net;
 use std::os::unix::fs::FileExt;
 use std::thread::Threads;
 use strata_images::{ImagesFault, check, gather_all, list, open_all};
-use strata_words::{Line, NoLine, Verb, line};
+use strata_words::{Line, NoLine, Verb};
 
-/// Runs the program on the arguments after its name, over a reader and a writer that were not used
-/// before, and returns its exit status, with the ends that it ran between. The reader and the
-/// writer are the two ends of an open `/dev/fuse` if the line has `--device`, and not otherwise;
-/// then `shared` are both ends once more, for several readers if the line has them. A fault of the
-/// arguments, or memory refused while they are read, ends it before either is touched. A request
-/// for the version prints its line.
+/// Runs the program as its arguments were read by [`line`], over a reader and a writer that were
+/// not used before, and returns its exit status, with the ends that it ran between. The reader and
+/// the writer are the two ends of an open `/dev/fuse` if the line has `--device`, and not
+/// otherwise; several readers have a copy of each. A fault of the arguments, or memory refused
+/// while they were read, ends it before either is touched. A request for the version prints its
+/// line.
 ///
 /// [`command_on_device`] and [`command_on_streams`] say what it then does, and `serve_device` what
-/// several readers do. Memory is from `alloc`, except for the command line: `clap` takes only the
-/// global allocator.
+/// several readers do.
+///
+/// [`line`]: crate::line
 pub fn command<
     R: Files + Net + Threads + Sync,
-    A: Allocator + Copy + Send + Sync,
-    S: AsStr,
-    I: Read + Drop,
-    O: Write + Drop,
-    X: Read + Copy + Send + Drop,
-    Y: Write + Copy + Send + Drop,
+    A: SharedAllocator,
+    I: Read + Copy + Send + Drop,
+    O: Write + Copy + Send + Drop,
     E: Write,
 >(
     rt: &R,
     alloc: A,
-    global: Global,
-    words: &[S],
+    read: Result<Line<'_>, NoLine>,
     reader: I,
     writer: O,
-    shared: (X, Y),
     faults: &mut E,
-) -> Ran<I, O, X, Y, A>
+) -> Ran<I, O, A>
 where
     R::File: FileExt + Send + Sync,
     R::Dir: Send,
-    ensures { IsRunAsSaid A (map S.text words.now)
-        (given (I.remaining reader) (O.contents writer) (X.remaining shared.0))
-        result.status (end_states I.remaining O.contents X.remaining result.ends) }
+    requires limits { IfOk read (λ line. IsInLimits line) }
+    requires socket { IfOk read (λ line. NamesSocket line) }
+    ensures { (words : List (List ℕ)) → IsReadOf words read.entry → IsRunAsSaid A words
+        (given (I.remaining reader) (O.contents writer))
+        result.status (end_states I.remaining O.contents result.ends) }
 {
-    match line(global, words) {
-        Ok(line) => command_of_line(rt, alloc, &line, reader, writer, shared, faults),
+    match read {
+        Ok(line) => command_of_line(rt, alloc, &line, reader, writer, faults),
         Err(NoLine::Version) => {
             let mut output = Spout::new(writer);
             let status = tell_version(alloc, &mut output, faults);
@@ -89,35 +85,24 @@ where
 // Runs the program by its line, over the devices that the line names.
 fn command_of_line<
     R: Files + Net + Threads + Sync,
-    A: Allocator + Copy + Send + Sync,
-    I: Read + Drop,
-    O: Write + Drop,
-    X: Read + Copy + Send + Drop,
-    Y: Write + Copy + Send + Drop,
+    A: SharedAllocator,
+    I: Read + Copy + Send + Drop,
+    O: Write + Copy + Send + Drop,
     E: Write,
->(
-    rt: &R,
-    alloc: A,
-    line: &Line<'_>,
-    reader: I,
-    writer: O,
-    shared: (X, Y),
-    faults: &mut E,
-) -> Ran<I, O, X, Y, A>
+>(rt: &R, alloc: A, line: &Line<'_>, reader: I, writer: O, faults: &mut E) -> Ran<I, O, A>
 where
     R::File: FileExt + Send + Sync,
     R::Dir: Send,
     requires limits { IsInLimits line.now }
     requires socket { NamesSocket line.now }
     ensures { (words : List (List ℕ)) → IsLineOf words line.now → IsRunBy A words line.now
-        (given (I.remaining reader) (O.contents writer) (X.remaining shared.0))
-        result.status (end_states I.remaining O.contents X.remaining result.ends) }
+        (given (I.remaining reader) (O.contents writer))
+        result.status (end_states I.remaining O.contents result.ends) }
 {
     if line.device {
         if line.readers == 1 {
             return mount(rt, alloc, line, reader, writer, faults);
         }
-        let (reader, writer) = shared;
         return mount_by_readers(rt, alloc, line, reader, writer, faults);
     }
     let mut input = Tap::new(reader);
@@ -132,13 +117,11 @@ where
 // Runs the program over an open `/dev/fuse`, once there is room for a message.
 fn mount<
     R: Files + Net + Threads + Sync,
-    A: Allocator + Copy + Send + Sync,
+    A: SharedAllocator,
     I: Read + Drop,
     O: Write + Drop,
-    X: Read + Drop,
-    Y: Drop,
     E: Write,
->(rt: &R, alloc: A, line: &Line<'_>, reader: I, writer: O, faults: &mut E) -> Ran<I, O, X, Y, A>
+>(rt: &R, alloc: A, line: &Line<'_>, reader: I, writer: O, faults: &mut E) -> Ran<I, O, A>
 where
     R::File: FileExt + Send + Sync,
     R::Dir: Send,
@@ -147,7 +130,7 @@ where
     requires socket { NamesSocket line.now }
     ensures { (words : List (List ℕ)) → IsLineOf words line.now →
         IsRunMounted A words result.status (I.remaining reader)
-        (end_states I.remaining O.contents X.remaining result.ends) }
+        (end_states I.remaining O.contents result.ends) }
 {
     match MessageTap::new(alloc, reader) {
         Ok(mut input) => {
@@ -177,7 +160,7 @@ where
 /// It requires that neither `input` nor `output` was used before.
 pub fn command_on_streams<
     R: Files + Net + Threads + Sync,
-    A: Allocator + Copy + Send + Sync,
+    A: SharedAllocator,
     T: Source,
     K: Sink,
     E: Write,
@@ -207,7 +190,7 @@ where
 /// replies. Any other fault has its line and its status.
 pub fn command_on_device<
     R: Files + Net + Threads + Sync,
-    A: Allocator + Copy + Send + Sync,
+    A: SharedAllocator,
     I: Read + Drop,
     O: Write,
     E: Write,
@@ -238,13 +221,7 @@ where
 
 // Does all the steps after reading the line, and returns the exit status. Sessions at a socket may
 // make it nonzero: their faults are reported as they occur.
-fn do_steps<
-    R: Files + Net + Threads + Sync,
-    A: Allocator + Copy + Send + Sync,
-    T: Source,
-    K: Sink,
-    E: Write,
->(
+fn do_steps<R: Files + Net + Threads + Sync, A: SharedAllocator, T: Source, K: Sink, E: Write>(
     rt: &R,
     alloc: A,
     line: &Line<'_>,
@@ -287,7 +264,6 @@ where
     }
 }
 
-// The status of finished work, or its fault.
 fn as_status(done: Result<(), Fault>) -> Result<u8, Fault>
     ensures { MatchResult done (λ _. result ≡ Ok 0) (λ fault. result ≡ Err fault) }
 {
@@ -297,7 +273,6 @@ fn as_status(done: Result<(), Fault>) -> Result<u8, Fault>
     }
 }
 
-// The same for work on images.
 fn as_told(done: Result<(), ImagesFault>) -> Result<u8, Fault>
     ensures { MatchResult done (λ _. result ≡ Ok 0) (λ fault. result ≡ Err (Fault.Images fault)) }
 {

@@ -1,23 +1,24 @@
 //! The command `serve`.
 
 ghost use Rattle.std.specs.Prelude.{◌≡◌, ℕ, List, is_some, IfOk, OnOk, IfErr};
-ghost use Rattle.std.specs.Io.KnownBytes.{IsAtEnd};
 ghost use Rattle.devices.specs.States.{Devices, devices};
 ghost use Rattle.strata_words.specs.CommandLine.{IsInLimits};
 ghost use Rattle.fuse_answer.specs.Puts.{sourced_by};
-ghost use Rattle.serve_loop.specs.Serving.{Trace, Does};
-ghost use Rattle.strata.specs.Ending.{AreNamed, AreNew, Gave, GetsReplies, IsFileFault, IsServing, IsServedWhole, IsSessionOf, IsNotServed};
+ghost use Rattle.romfs_files.specs.Data.{source_of};
+ghost use Rattle.serve_loop.specs.Serving.{Trace};
+ghost use Rattle.strata.specs.Ending.{AreNamed, AreNew, IsFileFault, IsServing, IsServedWhole, IsNotServed};
 ghost use Rattle.strata_images.specs.Images.{ArePrepared, HaveSources, are_whole, bytes_of, sources_of};
 
 use crate::balances::tell_balances;
 use crate::faults::Fault;
 use crate::files::{create_named, open_requests};
 use crate::settings::{counted_of, first_of, plan_of};
-use devices::{Contents, Sink, Source, Spout, Tap};
-use serve_core::{Done, FreePass, MAX_TURNS, Served, StreamFault, Terms, run_from};
-use std::alloc::Allocator;
+use devices::{Sink, Source, Spout, Tap};
+use romfs_files::ImageData;
+use serve_core::{
+    Done, FreePass, MAX_TURNS, Served, SharedAllocator, StreamFault, Terms, run_from,
+};
 use std::fs::Files;
-use std::io::{Read, Write};
 use std::os::unix::fs::FileExt;
 use std::thread::Threads;
 use strata_images::{LineImages, prepare};
@@ -27,7 +28,7 @@ use strata_words::Line;
 /// over the stack, to a file, or otherwise the output, as they arrive. If an image is broken
 /// neither the input nor the output is touched. At the end of the stream it writes the balances, if
 /// a file is named for them.
-pub fn serve<R: Files + Threads + Sync, A: Allocator + Copy + Send + Sync, S: Source, K: Sink>(
+pub fn serve<R: Files + Threads + Sync, A: SharedAllocator, S: Source, K: Sink>(
     rt: &R,
     alloc: A,
     line: &Line<'_>,
@@ -65,7 +66,6 @@ struct Streams<F> {
     balances: Option<F>,
 }
 
-// Opens the file of requests that a line names, and creates those of replies and balances.
 fn open_streams<R: Files>(rt: &R, line: &Line<'_>) -> Result<Streams<R::File>, Fault>
     ensures named { IfOk result (λ streams. AreNamed line.now
         streams.requests streams.replies streams.balances) }
@@ -82,32 +82,27 @@ fn open_streams<R: Files>(rt: &R, line: &Line<'_>) -> Result<Streams<R::File>, F
 }
 
 // Answers the requests of a stream, and writes the balances at its end.
-fn serve_streams<
-    R: Threads + Sync,
-    A: Allocator + Copy + Send + Sync,
-    D: Contents + Sync,
-    F: Read + Write + Drop,
-    S: Source,
-    K: Sink,
->(
+fn serve_streams<R: Files + Threads + Sync, A: SharedAllocator, S: Source, K: Sink>(
     rt: &R,
     alloc: A,
     line: &Line<'_>,
-    served: Served<'_, A, D>,
-    streams: Streams<F>,
+    served: Served<'_, A, ImageData<R::File, A>>,
+    streams: Streams<R::File>,
     input: &mut S,
     output: &mut K,
 ) -> Result<(), Fault>
+where
+    R::File: FileExt + Sync,
     requires limits { IsInLimits line.now }
     requires named { AreNamed line.now streams.requests streams.replies streams.balances }
     requires new { AreNew (devices (S.state input.old) (K.state output.old)) }
     ensures done { (images : List (List ℕ)) →
-        ArePrepared line.now images (sourced_by D.source served.entry) →
+        ArePrepared line.now images (sourced_by source_of served.entry) →
         OnOk result (IsServedWhole A line.now images
         (devices (S.state input.old) (K.state output.old))
         (devices (S.state input.new) (K.state output.new))) }
     ensures stopped { (images : List (List ℕ)) →
-        ArePrepared line.now images (sourced_by D.source served.entry) →
+        ArePrepared line.now images (sourced_by source_of served.entry) →
         IfErr result (λ fault. IsNotServed A line.now images fault
         (devices (S.state input.old) (K.state output.old))
         (devices (S.state input.new) (K.state output.new))) }
@@ -123,96 +118,25 @@ fn serve_streams<
 
 // Answers the requests of the file or otherwise of the input, to the file or otherwise to the
 // output.
-fn serve_stream<
-    R: Threads + Sync,
-    A: Allocator + Copy + Send + Sync,
-    D: Contents + Sync,
-    F: Read + Write + Drop,
-    S: Source,
-    K: Sink,
->(
+fn serve_stream<R: Files + Threads + Sync, A: SharedAllocator, S: Source, K: Sink>(
     rt: &R,
     alloc: A,
     line: &Line<'_>,
-    served: Served<'_, A, D>,
-    requests: Option<F>,
-    replies: Option<F>,
+    served: Served<'_, A, ImageData<R::File, A>>,
+    requests: Option<R::File>,
+    replies: Option<R::File>,
     input: &mut S,
     output: &mut K,
 ) -> Result<Done<A>, StreamFault>
+where
+    R::File: FileExt + Sync,
     requires limits { IsInLimits line.now }
     requires requests { is_some requests ≡ is_some line.now.requests }
     requires replies { is_some replies ≡ is_some line.now.replies }
     requires new { AreNew (devices (S.state input.old) (K.state output.old)) }
-    ensures { (t : Trace) × IsServing line.now (sourced_by D.source served.entry) t result
+    ensures { (t : Trace) × IsServing line.now (sourced_by source_of served.entry) t result
         (devices (S.state input.old) (K.state output.old))
         (devices (S.state input.new) (K.state output.new)) }
-{
-    match requests {
-        Some(file) => serve_source(
-            rt,
-            alloc,
-            line,
-            served,
-            &mut Tap::new(file),
-            replies,
-            output,
-        ),
-        None => serve_source(rt, alloc, line, served, input, replies, output),
-    }
-}
-
-// Answers the requests of the source, to the file or otherwise to the output.
-fn serve_source<
-    R: Threads + Sync,
-    A: Allocator + Copy + Send + Sync,
-    D: Contents + Sync,
-    S: Source,
-    F: Write + Drop,
-    K: Sink,
->(
-    rt: &R,
-    alloc: A,
-    line: &Line<'_>,
-    served: Served<'_, A, D>,
-    source: &mut S,
-    replies: Option<F>,
-    output: &mut K,
-) -> Result<Done<A>, StreamFault>
-    requires limits { IsInLimits line.now }
-    requires new { AreNew (devices (S.state source.old) (K.state output.old)) }
-    ensures { (t : Trace)
-        × IsSessionOf line.now (sourced_by D.source served.entry) t result
-        × Gave t result (S.state source.old) (S.state source.new)
-        × GetsReplies replies t (K.state output.old) (K.state output.new) }
-{
-    match replies {
-        Some(file) => serve_between(rt, alloc, line, served, source, &mut Spout::new(file)),
-        None => serve_between(rt, alloc, line, served, source, output),
-    }
-}
-
-// Answers the requests of the source, to the sink.
-fn serve_between<
-    R: Threads + Sync,
-    A: Allocator + Copy + Send + Sync,
-    D: Contents + Sync,
-    S: Source,
-    K: Sink,
->(
-    rt: &R,
-    alloc: A,
-    line: &Line<'_>,
-    served: Served<'_, A, D>,
-    source: &mut S,
-    sink: &mut K,
-) -> Result<Done<A>, StreamFault>
-    requires limits { IsInLimits line.now }
-    requires new { AreNew (devices (S.state source.old) (K.state sink.old)) }
-    ensures run { Does (λ t. IsSessionOf line.now (sourced_by D.source served.entry) t result)
-        (devices (S.state source.old) (K.state sink.old))
-        (devices (S.state source.new) (K.state sink.new)) }
-    ensures end { OnOk result (IsAtEnd (S.state source.new).left) }
 {
     let terms = Terms {
         first: first_of(line),
@@ -221,5 +145,13 @@ fn serve_between<
         counted: counted_of(line),
         gate: &FreePass,
     };
-    run_from(rt, alloc, served, source, sink, &terms)
+    match (requests, replies) {
+        (Some(from), Some(to)) => {
+            let (mut from, mut to) = (Tap::new(from), Spout::new(to));
+            run_from(rt, alloc, served, &mut from, &mut to, &terms)
+        }
+        (Some(from), None) => run_from(rt, alloc, served, &mut Tap::new(from), output, &terms),
+        (None, Some(to)) => run_from(rt, alloc, served, input, &mut Spout::new(to), &terms),
+        (None, None) => run_from(rt, alloc, served, input, output, &terms),
+    }
 }

@@ -6,7 +6,7 @@ use std::fs;
 use std::fs::Files;
 use std::os::unix::fs::{FileTypeExt, MetadataExt};
 use strata::Fault;
-use strata_words::{Line, Verb, line};
+use strata_words::{Line, NoLine, Verb};
 
 /// Standard input, in Linux's directory of a process's open files.
 const INPUT: &str = "/proc/self/fd/0";
@@ -22,36 +22,24 @@ const NO_DEVICE: &str = "error: '--device' needs an open /dev/fuse as standard i
 
 /// The fault of arguments that read requests from a terminal, or that have `--device` if standard
 /// input is neither an open `/dev/fuse` nor a socket, which may replace one. `None` if the system
-/// cannot tell, or if the arguments have a fault, which is reported elsewhere.
+/// cannot tell, or if the arguments have no line.
 pub fn unfit_input<R: Files>(
     rt: &R,
     alloc: Global,
-    words: &[String],
+    read: &Result<Line<'_>, NoLine>,
     is_terminal: bool,
 ) -> Option<Fault> {
-    if !is_terminal && !words.iter().any(|word| word.as_str() == "--device") {
+    let Ok(line) = read else {
         return None;
-    }
-    let text = unfit_text(rt, alloc, words, is_terminal)?;
+    };
+    let text = unfit_text(rt, line, is_terminal)?;
     match String::from_str(alloc, text) {
         Ok(text) => Some(Fault::Usage { text }),
         Err(refused) => Some(Fault::from(refused)),
     }
 }
 
-fn unfit_text<R: Files>(
-    rt: &R,
-    alloc: Global,
-    words: &[String],
-    is_terminal: bool,
-) -> Option<&'static str> {
-    match line(alloc, words) {
-        Ok(line) => unfit_for(rt, &line, is_terminal),
-        Err(_) => None,
-    }
-}
-
-fn unfit_for<R: Files>(rt: &R, line: &Line<'_>, is_terminal: bool) -> Option<&'static str> {
+fn unfit_text<R: Files>(rt: &R, line: &Line<'_>, is_terminal: bool) -> Option<&'static str> {
     if line.device {
         if may_be_device(rt) {
             None

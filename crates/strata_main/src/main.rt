@@ -10,7 +10,7 @@ use std::fs::Files;
 use std::io::IsTerminal;
 use std::process::ExitCode;
 use strata::{Fault, command};
-use strata_words::words;
+use strata_words::{line, words};
 
 /// Freed blocks of up to this size are kept for later allocations.
 const KEPT: usize = 0x40_0000;
@@ -41,22 +41,13 @@ fn main(rt: HostRuntime) -> ExitCode {
     let mut faults = rt.stderr();
     let input = rt.stdin();
     let status = match words(&rt) {
-        Ok(words) => match unfit_input(&rt, alloc, words.as_slice(), input.is_terminal()) {
-            Some(fault) => fault.end(&mut faults),
-            None => {
-                let ran = command(
-                    &rt,
-                    alloc,
-                    alloc,
-                    words.as_slice(),
-                    input,
-                    rt.stdout(),
-                    (input, rt.stdout()),
-                    &mut faults,
-                );
-                ran.status
+        Ok(words) => {
+            let read = line(alloc, words.as_slice());
+            match unfit_input(&rt, alloc, &read, input.is_terminal()) {
+                Some(fault) => fault.end(&mut faults),
+                None => command(&rt, alloc, read, input, rt.stdout(), &mut faults).status,
             }
-        },
+        }
         Err(fault) => Fault::from(fault).end(&mut faults),
     };
     ExitCode::from(status)

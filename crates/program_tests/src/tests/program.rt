@@ -1,5 +1,6 @@
 //! Runs of the program, and files of a test's own.
 
+use devices::{Spout, Tap};
 use std::alloc::{Allocator, Global};
 use std::fs::Files;
 use std::io::{self, Read, Write};
@@ -8,11 +9,12 @@ use std::os::unix::fs::FileExt;
 use std::test::Fail;
 use std::thread::Threads;
 use std::{env, fs, process};
-use strata::command;
+use strata::{command, command_on_streams};
 use test_kit::sample_images::empty;
 
 /// The status of the program over these streams, in memory of `alloc`; none if standard error has
-/// anything but this line, or anything at all if the status is 0.
+/// anything but this line, or anything at all if the status is 0. Arguments without a line touch no
+/// stream.
 pub fn status_of<
     R: Files + Net + Threads + Sync,
     A: Allocator + Copy + Send + Sync,
@@ -24,9 +26,16 @@ where
     R::Dir: Send,
 {
     let mut faults = Vec::new(global);
-    let shared = (io::empty(), io::sink());
-    let ran = command(rt, alloc, global, words, input, output, shared, &mut faults);
-    let status = ran.status;
+    let status = match strata::line(global, words) {
+        Ok(line) => {
+            if line.device {
+                return None;
+            }
+            let (mut input, mut output) = (Tap::new(input), Spout::new(output));
+            command_on_streams(rt, alloc, &line, &mut input, &mut output, &mut faults)
+        }
+        Err(none) => command(rt, alloc, Err(none), io::empty(), io::sink(), &mut faults).status,
+    };
     let told: &[u8] = if status == 0 { &[] } else { line };
     (faults.as_slice() == told).then_some(status)
 }

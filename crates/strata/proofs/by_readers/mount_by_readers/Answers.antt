@@ -5,7 +5,7 @@ use Rattle.strata.proofs.by_readers.mount_by_readers.Goals as goal
 
 pub returns-in-Ok : goal.returns-in-Ok
 returns-in-Ok g c =
-    let seat = seat_of {O = g.row.Y.Denot} {A = g.row.A.Denot} g.X.Read.remaining in (
+    let seat = seat_of {O = g.row.O.Denot} {A = g.row.A.Denot} g.I.Read.remaining in (
       c.tell_end.ensures ∙ ap status_of_end (c.end_of_all.ensures ∙ ap (λ seats. end_of_all (map seat seats)) c.as_slice.ensures.value),
       c.in-Ok.ensures.served,
     )
