@@ -8,6 +8,8 @@ ERROR = re.compile(r"(?:\./)?((?:src|specs|proofs)/\S+):(\d+):\d+: error\S* (.*)
 AT_NAME = "only at a name"
 # a proof that names what is not there, and what cites that proof
 NAMES = re.compile(r"has no field|is not in scope|has no `|was not admitted")
+IMPL = re.compile(r"impl(?:<.*?>)? (?:(\w+)(?:<(.*)>)? for )?&?(?:'\w+ )?(\w+)")
+TYPE = re.compile(r"(?m)^(?:pub(?:\([a-z]+\))? )?(?:struct|enum|trait|type) (\w+)")
 
 
 def verdict(goals, errors):
@@ -27,6 +29,24 @@ def place_of(file):
     """The module of a file of src/, as the parts of its path in the crate."""
     parts = re.sub(r"^src/|(/mod)?\.rt$", "", file).split("/")
     return [] if parts in (["lib"], ["main"]) else parts
+
+
+def owner_of(head):
+    """The type that a line `impl .. {` is about, and what it and its trait are called in names of functions."""
+    trait, source, kind = IMPL.match(head).groups()
+    return kind, kind + (trait or "") + (source if trait == "From" else "")
+
+
+def elsewhere(text):
+    """What types of other modules, which have methods in a file, are called in names of functions: their modules come before."""
+    owners = map(owner_of, filter(IMPL.match, text.split("\n")))
+    return {owner for kind, owner in owners if kind not in TYPE.findall(text)}
+
+
+def is_in(parts, file, text):
+    """Whether a function at this path in the crate may stand in a file: in its module, or as a method of another module's type."""
+    place = place_of(file)
+    return parts[:len(place)] == place or len(parts) > 1 and parts[-2] in elsewhere(text)
 
 
 class Said:
@@ -50,7 +70,7 @@ def own(edit, told, bodies):
     each file as it was checked."""
     for file, line, text in told:
         answers = file.startswith("proofs/") and file.split("/")[1:-1]
-        if answers and any(answers[-1] == name and answers[:len(place_of(it))] == place_of(it) for it, name in edit.keys):
+        if answers and any(answers[-1] == name and is_in(answers, it, edit.texts[it]) for it, name in edit.keys):
             yield text
         if any(it == file and bodies[file][at].first < line <= bodies[file][at].ends + 1 for it, at in edit.changes):
             yield text

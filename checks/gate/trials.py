@@ -28,7 +28,7 @@ import time
 
 from checks import ROOT
 from checks.gate.crates import copied, crates_below
-from checks.gate.judged import Said, place_of, refusals, rest_of
+from checks.gate.judged import Said, is_in, refusals, rest_of
 from checks.gate.trial_edits import Edit, Misfit, batches_of, bodies_of, together, written_in
 
 OUTCOMES = ROOT + "/trials/outcomes.txt"
@@ -65,11 +65,10 @@ class Trials:
         """The names that a check gives to the functions that an edit changes: all that end alike in their module."""
         found = set()
         for file, name in edit.keys:
-            module = [self.crate, *place_of(file)]
             ends = {it.name for it in bodies_of(edit.texts[file]) if it.cycle == name} or {name}
             for it in self.names:
-                parts = it.split("::")
-                if parts[:len(module)] == module and parts[-1] in ends:
+                crate, *parts = it.split("::")
+                if crate == self.crate and parts[-1] in ends and is_in(parts, file, edit.texts[file]):
                     found.add(it)
         return found
 

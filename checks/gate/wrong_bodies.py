@@ -26,13 +26,12 @@ import time
 
 from checks import ROOT
 from checks.gate.crates import crates_below, crates_used
-from checks.gate.judged import AT_NAME, Said, place_of, refusals
+from checks.gate.judged import AT_NAME, Said, elsewhere, owner_of, place_of, refusals
 from checks.gate.kit import Kit
 from checks.gate.trial_edits import Edit, Misfit, batches_of, bodies_of, together, written_in
 
 MOST = 6
 BY = re.compile(r"(?m)^by: *(\S+)\n")
-IMPL = re.compile(r"impl(?:<.*?>)? (?:(\w+)(?:<(.*)>)? for )?&?(?:'\w+ )?(\w+)")
 # of some arguments of a type alone; the name of such a function says them
 OF_ARGUMENTS = re.compile(r"impl(?:<.*?>)? \w+<[^>]*<")
 
@@ -52,15 +51,15 @@ def proved_at(crate):
 
 
 def name_of(file, text, body):
-    """The name that a check gives to a function, by its path in the crate, or the end of that."""
-    lines, owner = text.split("\n"), []
+    """The name that a check gives to a function, by its path in the crate, or the end of that: a method is of its type's module."""
+    lines = text.split("\n")
     if lines[body.opens].startswith(" ") or lines[body.first].startswith(" "):
         heads = [line for line in lines[:body.first] if line.startswith("impl")]
         if OF_ARGUMENTS.match(heads[-1]):
             return body.name
-        trait, source, kind = IMPL.match(heads[-1]).groups()
-        owner = [kind + (trait or "") + (source if trait == "From" else "")]
-    return "::".join([*place_of(file), *owner, body.name])
+        _, owner = owner_of(heads[-1])
+        return "::".join([*([] if owner in elsewhere(text) else place_of(file)), owner, body.name])
+    return "::".join([*place_of(file), body.name])
 
 
 class Tried:

@@ -11,10 +11,12 @@ import sys
 from checks import TOOLS
 from checks.mounts.mounted_attributes import ALL, layers_of, need_root, overlay_over, read
 from checks.mounts.mounted_ends import OTHER, as_other
+from checks.mounts.mounted_sharing import own_runtime, run
 from checks.shared.layer_files import archive, directory
 from checks.shared.layer_files import file as entry
-from checks.shared.mounting import LeftOut, fails, hold
+from checks.shared.mounting import LeftOut, Room, children, fails, hold
 from strata_format.system import called, libc
+from strata_mount import acls
 
 ACCESS, DEFAULT, CAPABILITY = "system.posix_acl_access", "system.posix_acl_default", "security.capability"
 # capability(7): CAP_NET_RAW, permitted and effective, of revision 2 (linux/capability.h)
@@ -25,6 +27,34 @@ NAMED = 1234
 CLOSED = struct.pack("<I" + "HHI" * 5, 2, 1, 6, 2 ** 32 - 1, 2, 4, NAMED, 4, 0, 2 ** 32 - 1, 16, 4, 2 ** 32 - 1,
                      32, 0, 2 ** 32 - 1)
 PR_GET_NO_NEW_PRIVS = 39
+# a program that stands between the kernel and strata, and takes POSIX_ACL (bit 20) from the flags of each INIT (26)
+WITHOUT_ACLS = """#!%s -IBS
+import sys
+sys.path.insert(0, %r)
+from strata_mount import relay
+asked = relay.next_request
+
+
+def next_request(device):
+    message = asked(device)
+    if message[4:8] == (26).to_bytes(4, "little"):
+        flags = int.from_bytes(message[52:56], "little") & ~(1 << 20)
+        message = message[:52] + flags.to_bytes(4, "little") + message[56:]
+    return message
+
+
+relay.next_request = next_request
+relay.main(["--", %r, *sys.argv[1:]])
+"""
+# mount.strata with another program
+HELPER = """
+import sys
+sys.path.insert(0, %r)
+from strata_format import version
+from strata_mount import helper
+version.program = lambda: %r
+sys.exit(helper.main(sys.argv[1:]))
+"""
 
 
 def found(path):
@@ -335,4 +365,58 @@ def copied_up(room):
     return "%d paths in an overlay, three of them copied up with theirs" % len(wanted)
 
 
-CHECKS = (extended, stacked_extended, largest, asked, capable, enforced, copied_up)
+def without_acls(room):
+    """A script in the program's place: a client between it and the kernel that offers no ACLs."""
+    script = room.write((WITHOUT_ACLS % (sys.executable, TOOLS, room.program)).encode())
+    os.chmod(script, 0o755)
+    return Room(script, room.folder)
+
+
+def started(room, script, words):
+    """What a script says of the mount that it makes in the background, which is then unmounted."""
+    at = room.place()
+    done = subprocess.run([sys.executable, "-IBS", "-c", script, *words, at], stdin=subprocess.DEVNULL, stderr=subprocess.PIPE)
+    hold("its status", 0, done.returncode)
+    unmount(at)
+    for server in children():
+        os.waitpid(server, 0)
+    return done.stderr.decode()
+
+
+def unheeded(room):
+    """A mount that enforces no ACLs of its images says so, unless that is meant: over a client that offers none, where modes
+    alone decide and ACLs are not listed, and if all files that have them are hidden."""
+    need_root(room)
+    image, other = image_of(room, marked(room)), without_acls(room)
+    hidden, = layers_of(room, archive([entry(".wh.etc", b"")]))
+    told = ("mount.py: %s: ACLs are not enforced, modes alone decide: this kernel has none for FUSE, or upper images hide the "
+            "files that have them; -o modeless says that this is meant\n" % image)
+    mount = other.mount([image], "-o", "allow_other", told=told.encode())
+    closed = mount.path(b"etc/closed")
+    fails("an ACL", errno.EOPNOTSUPP, os.getxattr, closed, ACCESS)
+    hold("names", ["user.comment"], os.listxattr(closed))
+    hold("a member of the group", 0, as_user(5, 77, lambda: read(closed)))
+    mount.end()
+    other.mount([image], *ALL).end()
+    room.mount([image, hidden], "-o", "allow_other", told=told.encode()).end()
+    room.mount([hidden, image], "-o", "allow_other").end()
+    at, process = other.start([image, image])
+    line = process.stderr.readline().decode()
+    unmount(at)
+    hold("in the foreground", (told.replace(image, image + " and 1 more"), b""), (line, process.communicate()[1]))
+    own_runtime()
+    shared = other.place(), other.place()
+    hold("shared", (0, "", told), run(other, "--share", image, shared[0]))
+    hold("shared again", (0, "", ""), run(other, "--share", image, shared[1]))
+    unmount(*shared)
+    os.waitpid(*children(), 0)
+    hold("mount.strata", told.replace("mount.py", "mount.strata"), started(room, HELPER % (TOOLS, other.program), [image]))
+    hold("a folder without ACLs", (True, False), (acls.is_without("/proc"), acls.is_without(room.folder)))
+    bare, = layers_of(room, archive([entry("f", b"1", pax_headers={"SCHILY.xattr.user.x": ACCESS + "y" * 99})]))
+    for size in (1, 27, 64, 1 << 20):
+        acls.PIECE = size
+        hold("ACLs, read in pieces of %d" % size, [True, False, False], list(map(acls.has_acls, (image, hidden, bare))))
+    return "a line of a mount that enforces no ACLs, also shared, in the foreground and by mount.strata; none with modeless"
+
+
+CHECKS = (extended, stacked_extended, largest, asked, capable, enforced, unheeded, copied_up)

@@ -15,6 +15,8 @@ ENTRY = struct.Struct("<2HI")
 USER_OBJ, USER, GROUP_OBJ, GROUP, MASK, OTHER = 1, 2, 4, 8, 16, 32
 # the id of entries that name nobody
 NOBODY = 2 ** 32 - 1
+# of ACLs, with which their values begin
+VERSION = b"\2\0\0\0"
 
 
 def words(numbers):
@@ -87,14 +89,14 @@ class Part:
 
 def acl_entries(value):
     """The entries of an ACL, each a tag, permissions and an id; None if the value has another form."""
-    if not 4 <= len(value) <= ACL_MOST or len(value) % ENTRY.size != 4 or value[:4] != b"\2\0\0\0":
+    if not 4 <= len(value) <= ACL_MOST or len(value) % ENTRY.size != 4 or value[:4] != VERSION:
         return None
     return list(ENTRY.iter_unpack(value[4:]))
 
 
 def acl_of(entries):
     """The value of an ACL of these entries, in any order."""
-    return b"\2\0\0\0" + b"".join(ENTRY.pack(*entry) for entry in sorted(entries, key=lambda entry: (entry[0], entry[2])))
+    return VERSION + b"".join(ENTRY.pack(*entry) for entry in sorted(entries, key=lambda entry: (entry[0], entry[2])))
 
 
 def is_acl(value):

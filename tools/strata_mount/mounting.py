@@ -7,7 +7,7 @@ import sys
 
 from strata_format import ends
 from strata_format.refused import one_line
-from strata_mount import preconditions, privileges, read_ahead
+from strata_mount import acls, preconditions, privileges, read_ahead
 from strata_mount.device import DEVICE, answers, mounted, take_away
 from strata_mount.options import Options
 from strata_mount.processes import Bell, found_program, hold_descriptors, start
@@ -93,13 +93,14 @@ def prepare(confinement):
         confinement.enter()
 
 
-def answers_first(plan, server, bell):
-    """Whether a mount answers before its server ends. A thread asks, so that signals are heard
-    here."""
+def answers_first(plan, server, bell, with_acls):
+    """Whether a mount answers before its server ends. If images have ACLs it says so where the
+    mount enforces none. A thread asks, so that signals are heard here."""
     told = []
 
     def ask():
-        told.append(answers(plan.folder))
+        is_there = answers(plan.folder)
+        told.extend((is_there, is_there and with_acls and acls.is_without(plan.folder)))
         bell.ring()
 
     _thread.start_new_thread(ask, ())
@@ -108,7 +109,10 @@ def answers_first(plan, server, bell):
         image_progress.watch(told, bell, server.pid, plan.images if plan.whole else None)
     while not told:
         bell.wait()
-    return told[0]
+    is_there, is_without = told
+    if is_without:
+        acls.tell(plan, with_acls)
+    return is_there
 
 
 def status_of(server, errors, plan, bell):
@@ -195,7 +199,9 @@ def waited(plan, server, errors, bell):
         unblock()
         if plan.stats is not None:
             signal.signal(signal.SIGUSR1, lambda *_: server.send(signal.SIGUSR1))
-        is_there = (plan.background or sys.stderr.isatty()) and answers_first(plan, server, bell)
+        with_acls = acls.with_acls(plan)
+        is_asked = plan.background or sys.stderr.isatty() or with_acls
+        is_there = is_asked and answers_first(plan, server, bell, with_acls)
         if not plan.background:
             return status_of(server, errors, plan, bell)
         return 0 if is_there else status_of_none(server, errors, plan, bell)
