@@ -84,47 +84,6 @@ fn refused_memory_is_told_of_the_version(rt: HostRuntime) -> Result<(), Fail> {
     Ok(())
 }
 
-/// What `fsverity digest` prints of the empty image, whose tree has no bytes.
-const DIGEST: &str = "sha256:216e611f345f516d3d2d298023b88d6639e997d7f9da9da02d11291c1665514a";
-
-/// How many requests for memory a check of an image under its digest makes, and streams over it in
-/// its file and in memory, each of which is refused once and reported.
-fn refusals_under_a_digest<R: Files + Net + Threads + Sync>(
-    rt: &R,
-    global: Global,
-    path: &str,
-) -> [Result<u64, u64>; 3]
-where
-    R::File: FileExt + Send + Sync,
-    R::Dir: Send,
-{
-    let checked = ["check", "--digest", DIGEST, path];
-    let in_file = ["serve", "--in-files", "--digest", DIGEST, path];
-    let in_memory = ["serve", "--whole", "--digest", DIGEST, path];
-    [
-        told_refusals(rt, global, &checked, Some(b"layer 0: 96 bytes\n")),
-        told_refusals(rt, global, &in_file, Some(&REPLIES)),
-        told_refusals(rt, global, &in_memory, Some(&REPLIES)),
-    ]
-}
-
-#[test]
-fn refused_memory_is_told_of_a_sealed_image(rt: HostRuntime) -> Result<(), Fail> {
-    let image = image_file(&rt, "sealed")?;
-    let tree = file_path(&rt, "sealed", "img.verity")?;
-    fs::write(&rt, tree.as_str(), b"")?;
-    let refusals = refusals_under_a_digest(&rt, rt.alloc(), image.as_str());
-    fs::remove_file(&rt, tree.as_str())?;
-    drop(tree);
-    fs::remove_file(&rt, image.as_str())?;
-    drop(image);
-    assert!(rt;
-        matches!(refusals, [Ok(6..), Ok(11..), Ok(11..)]),
-        "{refusals:?}"
-    );
-    Ok(())
-}
-
 /// Whether a file has these bytes.
 fn is_in_file(rt: &HostRuntime, path: &str, bytes: &[u8]) -> bool {
     fs::read(rt, path).is_ok_and(|read| read.as_slice() == bytes)
