@@ -249,6 +249,7 @@ def sealed_by_kernel(room):
                                          check=True).stdout)
         row, = (it for it in rows if it["folder"] == mount.at)
         hold("--list", (images, digests, [holder.replace("the ", "")] * 2), (row["images"], row["digests"], row["sealed_by"]))
+        hold("the source", images[0] + "+1 (sealed%s)" % (" by the kernel" * (kind == EXT4)), row["source"])
         mount.end()
     counts = room.place() + "/counts"
     for image in images:
@@ -305,6 +306,7 @@ def sealed_store(room):
     hold("the same tree", sorted(os.listdir(one)), sorted(os.listdir(other)))
     rows = {row["folder"]: row for row in json.loads(run(room, "--list", "--json")[1])}
     hold("digests", [digests, []], [rows[it]["digests"] for it in (one, other)])
+    hold("sealed", [True, False], [rows[it]["source"].endswith(" (sealed)") for it in (one, other)])
     for at in (one, two, three, other):
         umount(at)
     wait_until("all servers' end", lambda: not alive())

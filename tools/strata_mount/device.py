@@ -51,7 +51,7 @@ def mount(plan, device):
     owner = (os.geteuid(), os.getegid())
     text = ["fd=%d,rootmode=40000,user_id=%d,group_id=%d" % (device, *owner)]
     text += [word for word in plan.words if word not in SETS and word not in CLEARS]
-    status = libc.mount(os.fsencode(plan.source), os.fsencode(plan.folder), os.fsencode(KIND),
+    status = libc.mount(os.fsencode(plan.shown_source()), os.fsencode(plan.folder), os.fsencode(KIND),
                         c_ulong(flags_of(plan.words)), ",".join(text).encode())
     called(status, plan.folder + ": mount")
 
@@ -71,7 +71,7 @@ def mounted_by_helper(plan):
     if not helper:
         why = "only root may mount, and there is no fusermount3: install fuse3"
         raise OSError(0, why, plan.folder)
-    source = plan.source.replace("\\", "\\\\").replace(",", "\\,")
+    source = plan.shown_source().replace("\\", "\\\\").replace(",", "\\,")
     words = ",".join([*plan.words, "fsname=" + source, "subtype=strata"])
     ours, theirs = socket.socketpair()
     number = theirs.fileno()

@@ -92,7 +92,7 @@ def plan_of(read, name):
     source = spec if is_stored or all(map(os.path.isabs, names)) else word_of(names)
     if len(os.fsencode(source)) > SOURCE_MOST:
         raise Wrong("the images' names have more than %d bytes together, the limit for the source of a mount" % SOURCE_MOST)
-    plan = Plan(name=name, images=names, folder=folder, background=True, may_replace=False, source=source,
+    plan = Plan(name=name, images=names, folder=folder, background=True, may_replace=False, source=source, is_of_fstab=True,
                 word=None if is_stored else spec, joined=word_of)
     plan.settle(options)
     return plan

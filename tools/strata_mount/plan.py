@@ -16,7 +16,7 @@ TREE = ".verity"
 class Plan:
     """What the words of strata-mount say, or those of the mount helper."""
 
-    # who is called, in messages; what `findmnt` shows as the source
+    # who is called, in messages; the source of the mount
     name, source = "strata-mount", "strata"
     # strata's own program, unless another is named
     program, images, folder = None, (), None
@@ -33,6 +33,8 @@ class Plan:
     share = is_printed = is_stacked = keeps_privileges = False
     # the name of the file in which requests are counted
     stats = None
+    # whether a line of fstab says the source, by which mount(8) finds the mount again
+    is_of_fstab = False
     # how several images are said
     joined = staticmethod(quoted)
     # open files that mark layers of the store as in use while strata runs
@@ -83,6 +85,13 @@ class Plan:
         """Of each image by whom it is held to a digest, and to which; None where it isn't."""
         return [None if it == NOT_SEALED else ("the kernel" if at in self.by_kernel else "strata", it)
                 for at, it in enumerate(self.digests)]
+
+    def shown_source(self):
+        """What the table of mounts shows as the source: with a word if each image is sealed."""
+        holders = {None if it is None else it[0] for it in self.seals()}
+        if self.is_of_fstab or not holders or None in holders:
+            return self.source
+        return self.source + (" (sealed by the kernel)" if holders == {"the kernel"} else " (sealed)")
 
     def settle(self, options):
         """Takes over what -o says."""
