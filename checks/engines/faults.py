@@ -8,9 +8,10 @@ import subprocess
 import threading
 import time
 
-from checks.engines.layers import put
+from checks.engines.layers import kind_of, put
 from checks.engines.snapshotters import Snapshotter
 from checks.shared.mounting import SECONDS, Failed, hold, places, wait_until
+from strata_snapshotter import sockets
 
 
 def fill(folder):
@@ -109,6 +110,29 @@ def check_kept_mounts(snapshotter):
         time.sleep(0.02 * number)
         snapshotter.call("Remove", key="removed")
     wait_until("nothing is left", lambda: snapshotter.left() == ["snapshots/4"])
+
+
+def lies_on(snapshotter, key):
+    """In which folder of the root a new snapshot's lower folder is."""
+    mount, = snapshotter.call("Prepare", key=key, parent="one").mounts
+    options = dict(it.partition("=")[::2] for it in mount.options)
+    return kind_of(snapshotter, options["lowerdir"])
+
+
+def check_replaced_folders(snapshotter):
+    """With --keep what is unpacked lies on a folder that an image has just replaced, and containers
+    on the mount. The folder goes with what lies on it, once it is kept no longer."""
+    restart_keeping(snapshotter, "1000")
+    snapshotter.layer("one", "", fill)
+    snapshotter.settled("one")
+    hold("unpacked", "snapshots", lies_on(snapshotter, "extract-2"))
+    hold("a container", "mounts", lies_on(snapshotter, "c"))
+    restart_keeping(snapshotter, "0")
+    hold("unpacked later", "mounts", lies_on(snapshotter, "extract-3"))
+    folder = snapshotter.root + "/snapshots/1/fs"
+    hold("the folder", ["file"], os.listdir(folder))
+    snapshotter.call("Remove", key="extract-2")
+    hold("the folder is there", False, os.path.exists(folder))
 
 
 def check_what_a_killed_one_left(snapshotter):
@@ -315,8 +339,37 @@ def check_the_socket_of_systemd(snapshotter):
         kept.close()
 
 
+def check_greetings(snapshotter):
+    """A client of the socket that systemd holds is greeted before there is a service; what it sends
+    is passed on, but for its answer to the greeting, and so is what the service sends."""
+    outer, inner = snapshotter.folder + "/outer.sock", snapshotter.folder + "/inner.sock"
+    frames = [bytes.fromhex(it) for it in ("000006 04 00 00000000 000300000064",
+                                           "000000 04 01 00000000",
+                                           "000002 01 04 00000001 8283", "000000 04 01 00000000")]
+    with socket.socket(socket.AF_UNIX) as listening, socket.socket(socket.AF_UNIX) as client, \
+            socket.socket(socket.AF_UNIX) as serving:
+        listening.bind(outer)
+        listening.listen()
+        passing = sockets.Passing(listening, inner)
+        client.connect(outer)
+        hold("settings", sockets.GREETING, sockets.received(client, len(sockets.GREETING)))
+        client.sendall(b"p" * sockets.PREFACE + b"".join(frames))
+        client.shutdown(socket.SHUT_WR)
+        serving.bind(inner)
+        serving.listen()
+        passing.is_open.set()
+        with serving.accept()[0] as connection:
+            wanted = b"p" * sockets.PREFACE + b"".join([frames[0], *frames[2:]])
+            hold("what is passed on", wanted, sockets.received(connection, len(wanted) + 1))
+            connection.sendall(frames[0])
+        hold("what comes back", frames[0], sockets.received(client, len(frames[0]) + 1))
+        passing.stop()
+
+
 CHECKS = (check_killed_and_restarted, check_mounts_that_are_gone, check_kept_mounts,
+          check_replaced_folders,
           check_what_a_killed_one_left,
           check_random_kills,
           check_refused_roots, check_removed_while_it_is_made, check_removed_while_it_is_committed,
-          check_many_at_once, check_a_full_disk, check_the_socket_of_systemd)
+          check_many_at_once, check_a_full_disk, check_the_socket_of_systemd,
+          check_greetings)

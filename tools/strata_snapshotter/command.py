@@ -19,6 +19,8 @@ SOCKET = "/run/strata-snapshotter/strata-snapshotter.sock"
 STORE = "/var/lib/strata"
 CONTENT = "/var/lib/containerd/io.containerd.content.v1.content"
 NAME = "strata-snapshotter"
+# the socket of gRPC itself in the root, if systemd holds the one that containerd knows
+INNER = "grpc.sock"
 GRACE = 2
 KEEP = 10
 # fewer digits has a number of seconds
@@ -68,18 +70,38 @@ def parser():
 
 def serve(words):
     """Serves until a signal ends it; the mounts stay, and so do the processes that serve them."""
+    from strata_snapshotter import sockets
+    done = threading.Event()
+    for it in (signal.SIGTERM, signal.SIGINT):
+        signal.signal(it, lambda *_: done.set())
+    given = sockets.given()
+    path = words.socket if given is None else os.path.join(words.root, INNER)
+    # its clients are greeted before all else is loaded
+    passing = None if given is None else sockets.Passing(given, path)
+    snapshots, server = served(words, path)
+    server.start()
+    if passing is not None:
+        passing.is_open.set()
+    sockets.tell("READY=1")
+    done.wait()
+    sockets.tell("STOPPING=1")
+    if passing is not None:
+        passing.stop()
+    server.stop(GRACE).wait()
+    snapshots.close()
+    # threads that wait for an image would be waited for
+    os._exit(0)
+
+
+def served(words, path):
+    """The snapshots of a root, and a server of them at a socket, which is not started."""
     from strata_snapshotter import service, sockets
     from strata_snapshotter.blob_image import Content
     from strata_snapshotter.places import Places
     from strata_snapshotter.ready_layers import ReadyLayers
     from strata_snapshotter.snapshots import Snapshots
     from strata_snapshotter.store_layers import StoreLayers
-    done = threading.Event()
-    for it in (signal.SIGTERM, signal.SIGINT):
-        signal.signal(it, lambda *_: done.set())
-    given = sockets.given()
     held = Places(words.root)
-    path = words.socket if given is None else held.at("grpc.sock")
     os.makedirs(os.path.dirname(path) or ".", 0o700, exist_ok=True)
     sockets.clear(path)
     program = os.path.abspath(words.program or version.program())
@@ -90,17 +112,7 @@ def serve(words):
         server.add_insecure_port("unix:" + os.path.abspath(path))
     except RuntimeError as fault:
         raise Refused("%s: %s" % (path, fault)) from None
-    server.start()
-    passing = None if given is None else sockets.Passing(given, path)
-    sockets.tell("READY=1")
-    done.wait()
-    sockets.tell("STOPPING=1")
-    if passing is not None:
-        passing.stop()
-    server.stop(GRACE).wait()
-    snapshots.close()
-    # threads that wait for an image would be waited for
-    os._exit(0)
+    return snapshots, server
 
 
 def begin(words):

@@ -12,6 +12,7 @@ import os
 import secrets
 import sqlite3
 import threading
+import time
 
 from strata_format.refused import Refused
 from strata_layers.verity import TREE
@@ -161,6 +162,7 @@ class ImageMaker:
             self.state.settle(snapshot.id, Form.IMAGE,
                               places.usage(self.places.image(snapshot.id)), digest)
         self.snapshots.spare.add(snapshot.id)
+        self.snapshots.replaced[snapshot.id] = time.monotonic()
         self.snapshots.mount_ahead(snapshot.id)
 
     # --- layers that are given as images ---

@@ -3,17 +3,20 @@
 A layer is committed as the folder into which containerd unpacked it, at once; its image is made
 behind that, and then takes the folder's place (image_maker.py). What is to lie on a chain of
 layers for long waits for that, and lies on one mount of strata; overlayfs puts what is written
-over it. Only unpacking goes on over folders meanwhile.
+over it. Only unpacking goes on over folders meanwhile, and over those that images have just
+replaced: so it needs no mount of its own for each layer.
 
 What an overlay lies on is noted with it and stays the same; folders and mounts that nothing
 lies on are removed.
 """
 import collections
 import contextlib
+import itertools
 import logging
 import os
 import sqlite3
 import threading
+import time
 
 from strata_snapshotter import places
 from strata_snapshotter.chain_mounts import ChainMounts
@@ -87,8 +90,9 @@ class Snapshots:
         self.is_due = False
         # over the state, and over folders as the state has them
         self.lock = threading.RLock()
-        # layers that are images, and whose folders are there still
-        self.spare = set()
+        # layers that are images, and whose folders are there still; and since when those are that
+        # hold the same files
+        self.spare, self.replaced = set(), {}
         self.maker = ImageMaker(self, program)
         held.clear()
         self.cleanup()
@@ -136,17 +140,18 @@ class Snapshots:
             parent = self.parent_of(name, parent_name)
         if kind == Kind.ACTIVE and REFERENCE in labels:
             self.take_ready(name, parent, labels)
-        if parent is not None and not is_unpacked_to(name):
+        is_unpacked = is_unpacked_to(name)
+        if parent is not None and not is_unpacked:
             self.maker.wait(parent.id, is_wanted)
         while True:
             with self.lock:
-                lowers = self.lowers_on(self.parent_of(name, parent_name))
+                lowers = self.lowers_on(self.parent_of(name, parent_name), is_unpacked)
             with self.mounts_of.holding([it.layer for it in lowers if it.is_mount]):
                 folders = [self.folder_of(it) for it in lowers]
                 with self.lock:
                     # an image may have taken a folder's place meanwhile
                     parent = self.parent_of(name, parent_name)
-                    if self.lowers_on(parent) == lowers:
+                    if self.lowers_on(parent, is_unpacked) == lowers:
                         snapshot = self.insert(name, parent, kind, labels, lowers, folders)
                         return self.mounts_over(snapshot, folders)
 
@@ -163,11 +168,12 @@ class Snapshots:
             raise InvalidArgument("parent %s is not committed" % parent_name)
         return parent
 
-    def lowers_on(self, parent):
+    def lowers_on(self, parent, is_unpacked):
         """What a snapshot over a parent (or None) lies on: folders, and the mount of all images
-        below them."""
+        below them. What is unpacked lies on folders as far as these are there."""
         chain = self.state.chain(parent)
-        folders = [it for it in chain if it.form != Form.IMAGE]
+        folders = list(itertools.takewhile(
+            lambda it: it.form != Form.IMAGE or is_unpacked and it.id in self.replaced, chain))
         images = chain[len(folders):]
         return [Lower(it.id, False) for it in folders] + [Lower(it.id, True) for it in images[:1]]
 
@@ -360,12 +366,21 @@ class Snapshots:
             with self.lock:
                 numbers = self.state.numbers()
                 self.tidy_after(self.mounts_of.release(self.state.used(True), numbers))
-                found = (self.spare & numbers) - self.state.used(False)
+                self.tidy_after(self.release_folders(numbers))
+                found = (self.spare & numbers) - self.state.used(False) - self.replaced.keys()
                 self.spare -= found
                 aside = [self.places.set_aside(path) for number in found
                          for path in (self.places.files(number), self.places.work(number))]
         for path in aside:
             places.remove(path)
+
+    def release_folders(self, numbers):
+        """Lets nothing more be unpacked over folders that images have replaced for long; after how
+        many seconds there is one more, or None. The lock must be held."""
+        until = time.monotonic() - self.mounts_of.keep
+        self.replaced = {number: since for number, since in self.replaced.items()
+                         if number in numbers and since > until}
+        return min((since - until for since in self.replaced.values()), default=None)
 
     def tidy_after(self, seconds):
         """Sees that it is tidied again after so many seconds, or not if that is None. The lock must

@@ -2,6 +2,10 @@
 
 gRPC listens at a socket of its own. If systemd holds the one that containerd knows, connections to
 it are passed on to that, so none is refused while the service restarts.
+
+A client of gRPC in Go gives up a connection on which the server's settings do not come within a
+second, and then fails calls until it tries again. So each connection is greeted at once, before the
+modules of gRPC are loaded; calls on it wait.
 """
 import contextlib
 import os
@@ -16,6 +20,12 @@ FIRST = 3
 PIECE = 1 << 16
 # so many bytes may the path of a socket have
 PATH_MOST = 107
+# what a server of HTTP/2 says first: its settings, of which there are none here
+GREETING = bytes.fromhex("000000 04 00 00000000")
+# a client sends so many bytes and then frames: of a length in three bytes, a kind and flags, within a
+# head of so many bytes
+PREFACE, HEAD = 24, 9
+SETTINGS, ACKNOWLEDGED = 4, 1
 
 
 def given():
@@ -69,22 +79,48 @@ def pass_on(source, target):
         target.shutdown(socket.SHUT_WR)
 
 
-def joined(outer, path):
-    """Passes bytes on between a connection and a new one to a socket, until both have ended."""
+def received(source, size):
+    """So many bytes, or fewer if there are no more."""
+    data = b""
+    while len(data) < size:
+        piece = source.recv(size - len(data))
+        if not piece:
+            break
+        data += piece
+    return data
+
+
+def pass_on_greeted(source, target):
+    """Passes on what a client sends up to its answer to the greeting, which gRPC does not expect."""
+    target.sendall(received(source, PREFACE))
+    while True:
+        head = received(source, HEAD)
+        if len(head) < HEAD or head[3] == SETTINGS and head[4] & ACKNOWLEDGED:
+            break
+        target.sendall(head + received(source, int.from_bytes(head[:3], "big")))
+
+
+def joined(outer, path, is_open):
+    """Greets a client, and passes bytes on between its connection and a new one to a socket, once
+    that is open, until both have ended."""
     with outer, socket.socket(socket.AF_UNIX) as inner:
         with contextlib.suppress(OSError):
+            outer.sendall(GREETING)
+            is_open.wait()
             inner.connect(path)
             back = threading.Thread(target=pass_on, args=(inner, outer), daemon=True)
             back.start()
+            pass_on_greeted(outer, inner)
             pass_on(outer, inner)
             back.join()
 
 
 class Passing:
-    """Joins each connection to a listening socket to one to the socket at a path, in threads."""
+    """Joins each connection to a listening socket to one to the socket at a path, in threads. They
+    wait until `is_open` is set."""
 
     def __init__(self, listening, path):
-        self.listening, self.path = listening, path
+        self.listening, self.path, self.is_open = listening, path, threading.Event()
         self.stopped, self.stopping = os.pipe()
         self.accepting = threading.Thread(target=self.accept, daemon=True)
         self.accepting.start()
@@ -92,7 +128,8 @@ class Passing:
     def accept(self):
         while self.stopped not in select.select([self.listening, self.stopped], [], [])[0]:
             connection, _ = self.listening.accept()
-            threading.Thread(target=joined, args=(connection, self.path), daemon=True).start()
+            threading.Thread(target=joined, args=(connection, self.path, self.is_open),
+                             daemon=True).start()
 
     def stop(self):
         """Leaves the connections that come from now on to the next service. One that this service
