@@ -6,7 +6,7 @@
 //!
 //! Its functions repeat the same bounds: no trait can replace those on `R::File` and `R::Dir`.
 
-ghost use Rattle.std.specs.Prelude.{◌≡◌, ℕ, List, true, false, Ok, Err, IfOk, IfErr, MatchResult};
+ghost use Rattle.std.specs.Prelude.{◌≡◌, ℕ, List, map, true, false, Ok, Err, IfOk, IfErr, MatchResult};
 ghost use Rattle.strata_words.specs.CommandLine.{IsInLimits, IsLineOf, NamesSocket};
 ghost use Rattle.devices.specs.States.{devices};
 ghost use Rattle.serve_device.specs.MountEnds.{ends};
@@ -23,13 +23,44 @@ use crate::version::tell_version;
 use devices::{Sink, Source, Spout, Tap};
 use serve_core::{SharedAllocator, StreamFault};
 use serve_device::{MessageTap, ReplySpout};
+use std::alloc::Global;
+use std::convert::AsStr;
 use std::fs::Files;
 use std::io::{Read, Write};
 use std::net::Net;
 use std::os::unix::fs::FileExt;
 use std::thread::Threads;
 use strata_images::{ImagesFault, check, gather_all, list, open_all};
-use strata_words::{Line, NoLine, Verb};
+use strata_words::{Line, NoLine, Verb, line};
+
+/// Reads the arguments after the program's name, and runs the program on them as
+/// [`command_as_read`] does. Memory is from `alloc`, except for the arguments: `clap` takes only the
+/// global allocator.
+pub fn command<
+    R: Files + Net + Threads + Sync,
+    A: SharedAllocator,
+    S: AsStr,
+    I: Read + Copy + Send + Drop,
+    O: Write + Copy + Send + Drop,
+    E: Write,
+>(
+    rt: &R,
+    alloc: A,
+    global: Global,
+    words: &[S],
+    reader: I,
+    writer: O,
+    faults: &mut E,
+) -> Ran<I, O, A>
+where
+    R::File: FileExt + Send + Sync,
+    R::Dir: Send,
+    ensures { IsRunAsSaid A (map S.text words.now)
+        (given (I.remaining reader) (O.contents writer))
+        result.status (end_states I.remaining O.contents result.ends) }
+{
+    command_as_read(rt, alloc, line(global, words), reader, writer, faults)
+}
 
 /// Runs the program as its arguments were read by [`line`], over a reader and a writer that were
 /// not used before, and returns its exit status, with the ends that it ran between. The reader and
@@ -40,9 +71,7 @@ use strata_words::{Line, NoLine, Verb};
 ///
 /// [`command_on_device`] and [`command_on_streams`] say what it then does, and `serve_device` what
 /// several readers do.
-///
-/// [`line`]: crate::line
-pub fn command<
+pub fn command_as_read<
     R: Files + Net + Threads + Sync,
     A: SharedAllocator,
     I: Read + Copy + Send + Drop,

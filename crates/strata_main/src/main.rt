@@ -9,7 +9,7 @@ use std::fs;
 use std::fs::Files;
 use std::io::IsTerminal;
 use std::process::ExitCode;
-use strata::{Fault, command};
+use strata::{Fault, command_as_read};
 use strata_words::{line, words};
 
 /// Freed blocks of up to this size are kept for later allocations.
@@ -45,7 +45,7 @@ fn main(rt: HostRuntime) -> ExitCode {
             let read = line(alloc, words.as_slice());
             match unfit_input(&rt, alloc, &read, input.is_terminal()) {
                 Some(fault) => fault.end(&mut faults),
-                None => command(&rt, alloc, read, input, rt.stdout(), &mut faults).status,
+                None => command_as_read(&rt, alloc, read, input, rt.stdout(), &mut faults).status,
             }
         }
         Err(fault) => Fault::from(fault).end(&mut faults),

@@ -99,8 +99,16 @@ where
 {
     refuse_in_turn(global, |memories| {
         let (refusing, mut faults) = (&memories.refusing, io::sink());
-        let read = strata::line(memories.global, words);
-        let ran = command(rt, refusing, read, io::empty(), io::sink(), &mut faults);
+        let (input, output) = (io::empty(), io::sink());
+        let ran = command(
+            rt,
+            refusing,
+            memories.global,
+            words,
+            input,
+            output,
+            &mut faults,
+        );
         ran.status == if refusing.refused() { 5 } else { 0 }
     })
 }
