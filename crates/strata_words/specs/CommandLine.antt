@@ -115,8 +115,12 @@ IsApp made app = IfOk made (λ command. app_of command ≡ app)
 -- the program's name, which is no argument; it needs a command, or prints its help or version
 abbrev pub top_command : App
 top_command = on_top
-    (λ s. record s { no_binary_name = true; has_version = true; disable_help_subcommand = true;
-        subcommand_required = true })
+    (λ s. record s {
+      no_binary_name = true;
+      has_version = true;
+      disable_help_subcommand = true;
+      subcommand_required = true;
+    })
     (new_app (codes "strata"))
 
 -- the program, with its four commands
