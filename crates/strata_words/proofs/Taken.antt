@@ -1,10 +1,8 @@
 -- Words that are a command of the program name one of its commands, whose rows are filled: `taken_names`. Each command is examined by
 -- itself (`serve_filled` to `list_filled`), and then which one is entered.
-use Rattle.std.proofs.Common.{◌≡◌, ◌||◌, ◌∙◌, Bool, cond, codes, true, false, refl, sym, List, [], ◌∷◌, Option, Some, None, is_some, true≢false, option_map}
+use Rattle.std.proofs.Common.{◌≡◌, Bool, cond, codes, true, false, refl, sym, List, [], ◌∷◌, Option, Some, None, is_some, true≢false, option_map}
 use Rattle.std.specs.List.{list_all, slice_index_or}
 use Rattle.std.specs.Option.{option_map_or}
-use Rattle.std.specs.Str.{bytes_eq}
-use Rattle.std.proofs.lemmas.Slice.Eq.{bytes_eq-Decides}
 use Rattle.clap.specs.Faults.{check_fault, entered_fault, level_fault, use_fault}
 use Rattle.clap.specs.Simple.{App, Shape, built, entered, help_shape, label_of, names_of, rows_at}
 use Rattle.clap.specs.Takes.{is_given}
@@ -13,7 +11,7 @@ use Rattle.clap.specs.declared.error.kind.ErrorKind.TheVariants as kind
 use Rattle.strata_words.specs.declared.options.Verb.{Verb}
 use Rattle.strata_words.specs.declared.options.Verb.TheVariants as verbs
 use Rattle.strata_words.specs.CommandLine.{GivesSocket, IsFilled, IsTaken, command_in, faults_in, program, verb_word}
-use Rattle.strata_words.proofs.Walked.{neither, settle_kept, stop_helps, walk_kept, walk_no_help}
+use Rattle.strata_words.proofs.Walked.{neither, settle_kept, walk_kept}
 use Rattle.strata_words.proofs.Valued.{all_filled, defaults_filled, fills, fills_default, rows_filled, some_value, used_filled}
 
 -- ---- one command
@@ -116,41 +114,28 @@ named : (verb : Verb) (s : Shape) (words : List Text) → IsFilled (rows_after s
 named verb s words filled gives = record { verb = verb; rows = rows_after s.rules [] words; is = refl; filled = filled; gives = gives }
 
 -- the command that is met, by which name its word is
-abbrev met : Bool → Bool → Bool → Bool → Bool → Option Shape
-met a b c d f = cond a (Some served) (cond b (Some listening)
-    (cond c (Some checked) (cond d (Some listed) (cond f (Some (slice_index_or made.subs 4 served)) None))))
+abbrev met : Bool → Bool → Bool → Bool → Option Shape
+met a b c d = cond a (Some served) (cond b (Some listening) (cond c (Some checked) (cond d (Some listed) None)))
 
 -- the command that was entered is one of the four
-entered_names : (p : Text × List Text) → stop_helps (Some p) ≡ false → entered_fault made (Some p) ≡ [] → is_some (entered made (Some p))
-    ≡ true
+entered_names : (p : Text × List Text) → entered_fault made (Some p) ≡ [] → is_some (entered made (Some p)) ≡ true
     → NamesCommand (entered made (Some p))
-entered_names p helps e some =
+entered_names p e some =
     go (answers_to p.0 (label_of served)) (answers_to p.0 (label_of listening)) (answers_to p.0 (label_of checked))
-    (answers_to p.0 (label_of listed)) (answers_to p.0 (codes "help", [])) no_help e some
+    (answers_to p.0 (label_of listed)) e some
   where
-    go : (a b c d f : Bool) → f ≡ false → option_map_or (λ s. level_fault s [] nothing_held p.1 false []) (met a b c d f) [] ≡ []
-        → is_some (option_map (λ s. rows_at s p.1) (met a b c d f)) ≡ true → NamesCommand (option_map (λ s. rows_at s p.1) (met a b c d f))
-    go true b c d f none e some = named verbs.Serve served p.1 (serve_filled p.1 e) (λ same. absurd (cc))
-    go false true c d f none e some = named verbs.Socket listening p.1 (socket_filled p.1 e) (λ _. socket_given p.1 e)
-    go false false true d f none e some = named verbs.Check checked p.1 (check_filled p.1 e) (λ same. absurd (cc))
-    go false false false true f none e some = named verbs.List listed p.1 (list_filled p.1 e) (λ same. absurd (cc))
-    go false false false false true none e some = absurd (true≢false none)
-    go false false false false false none e some = absurd (true≢false (sym some))
+    go : (a b c d : Bool) → option_map_or (λ s. level_fault s [] nothing_held p.1 false []) (met a b c d) [] ≡ []
+        → is_some (option_map (λ s. rows_at s p.1) (met a b c d)) ≡ true → NamesCommand (option_map (λ s. rows_at s p.1) (met a b c d))
+    go true b c d e some = named verbs.Serve served p.1 (serve_filled p.1 e) (λ same. absurd (cc))
+    go false true c d e some = named verbs.Socket listening p.1 (socket_filled p.1 e) (λ _. socket_given p.1 e)
+    go false false true d e some = named verbs.Check checked p.1 (check_filled p.1 e) (λ same. absurd (cc))
+    go false false false true e some = named verbs.List listed p.1 (list_filled p.1 e) (λ same. absurd (cc))
+    go false false false false e some = absurd (true≢false (sym some))
 
-    other_way : (b : Bool) → bytes_eq (codes "help") p.0 ≡ b → (b || false) ≡ false
-    other_way true is =
-        let same : p.0 ≡ codes "help" = sym ((bytes_eq-Decides (codes "help") p.0).0 is) in
-        absurd (true≢false (sym ((bytes_eq-Decides p.0 (codes "help")).1 same) ∙ helps))
-    other_way false is = refl
-
-    no_help : answers_to p.0 (codes "help", []) ≡ false
-    no_help = other_way (bytes_eq (codes "help") p.0) refl
-
-some_entered : (stop : Option (Text × List Text)) → stop_helps stop ≡ false → entered_fault made stop ≡ [] → is_some (entered made stop)
-    ≡ true
+some_entered : (stop : Option (Text × List Text)) → entered_fault made stop ≡ [] → is_some (entered made stop) ≡ true
     → NamesCommand (entered made stop)
-some_entered None helps e some = absurd (true≢false (sym some))
-some_entered (Some p) helps e some = entered_names p helps e some
+some_entered None e some = absurd (true≢false (sym some))
+some_entered (Some p) e some = entered_names p e some
 
 -- the program requires a command
 one_wanted : (rows : List Row) (has : Bool) → check_fault made.top rows has ≡ [] → has ≡ true
@@ -166,6 +151,5 @@ taken_names words e =
     let settle_on = neither _ _ below_on.1 in
     let check_on = neither _ _ settle_on.1 in
     let stop = (walk made.top.rules (names_of made) nothing_held words).stopped in
-    let helps = walk_no_help made.top refl (names_of made) (walk_from nothing_held) words walk_on.0 refl in
-    some_entered stop helps below_on.0 (one_wanted (rows_after made.top.rules (names_of made) words) (is_some (entered made stop))
+    some_entered stop below_on.0 (one_wanted (rows_after made.top.rules (names_of made) words) (is_some (entered made stop))
     check_on.1)

@@ -1,6 +1,6 @@
--- What a walk over the words of a command keeps, if none of them is at fault. The main lemmas are `walk_kept`, about a test on its rows,
--- and `walk_no_help`, that none of the words names the command `help`; each proceeds step by step as the walk does.
-use Rattle.std.proofs.Common.{◌≡◌, ◌&&◌, ℕ, Bool, cond, codes, true, false, not, zero, suc, refl, ap, List, [], ◌∷◌, ◌∙◌, length, Option, Some, None, is_some}
+-- What a walk over the words of a command keeps, if none of them is at fault. The main lemma is `walk_kept`, about a test on its rows;
+-- it proceeds step by step as the walk does.
+use Rattle.std.proofs.Common.{◌≡◌, ◌&&◌, ℕ, Bool, cond, true, false, not, zero, suc, refl, ap, List, [], ◌∷◌, ◌∙◌, length, Option, Some, None, is_some}
 use Rattle.std.specs.Prelude.{slice_get}
 use Rattle.std.specs.List.{find, fold, list_all}
 use Rattle.std.specs.Option.{option_map_or}
@@ -216,93 +216,3 @@ module _ (test : Row → Bool) (fits : Rule → Bool) (s : Shape)
   walk_kept names w (word ∷ rest) e before =
       let n = neither _ _ e in
       walk_kept names (walked s.rules names w word) rest n.1 (turn_kept names w word n.0 before)
-
--- ---- no word is `help`
-
--- the step names the command `help`
-abbrev step_helps : Step → Bool
-step_helps (subcommand name) = bytes_eq name (codes "help")
-step_helps _ = false
-
--- the walk stopped at the command `help`
-abbrev pub stop_helps : Option (Text × List Text) → Bool
-stop_helps None = false
-stop_helps (Some p) = bytes_eq p.0 (codes "help")
-
-plain_no_help : (c : List Rule) (waiting : Waiting) (word : Text) (h : Held) → step_helps (plain_word c waiting word h).1 ≡ false
-plain_no_help c idle word h = refl
-plain_no_help c positional word h = refl
-plain_no_help c (option id) word h = refl
-
-after_no_help : (c : List Rule) (waiting : Waiting) (word : Text) (h : Held) (met : Outcome)
-    → step_helps (after_flag c waiting word h met).1 ≡ false
-after_no_help c waiting word h done = refl
-after_no_help c waiting word h (waits id) = refl
-after_no_help c waiting word h plain = plain_no_help c waiting word h
-after_no_help c waiting word h refused = plain_no_help c waiting word h
-
-flag_word_no_help : (c : List Rule) (waiting : Waiting) (word : Text) (o : Option (Text × Option Text)) (h : Held)
-    → step_helps (long_or_other c waiting word o h).1 ≡ false
-flag_word_no_help c waiting word (Some p) h = after_no_help c waiting word _ _
-flag_word_no_help c waiting word None h = go (short_of word)
-  where
-    go : (o : Option Text) → step_helps (short_or_plain c waiting word o h).1 ≡ false
-    go None = plain_no_help c waiting word h
-    go (Some flags) = after_no_help c waiting word _ _
-
-module _ (s : Shape) (helps : s.disable_help_subcommand ≡ false) where
-  other_no_help : (o : Option Text) (waiting : Waiting) (position : ℕ) (word : Text) (h : Held) → other_fault s o word h ≡ []
-      → step_helps (subcommand_or_other s.rules o waiting position word h).1 ≡ false
-  other_no_help (Some name) waiting position word h e = go (bytes_eq name (codes "help")) s.disable_help_subcommand helps e
-    where
-      go : (b d : Bool) → d ≡ false → cond (b && not d) (kind.DisplayHelp ∷ kind.InvalidSubcommand ∷ []) [] ≡ [] → b ≡ false
-      go false d off e = refl
-      go true true off e = off
-      go true false off e = cc
-  other_no_help None waiting position word h e = go (bytes_eq word (45 ∷ 45 ∷ []))
-    where
-      go : (b : Bool) → step_helps (cond b (h, trailing position) (long_or_other s.rules waiting word (long_of word) h)).1 ≡ false
-      go true = refl
-      go false = flag_word_no_help s.rules waiting word (long_of word) h
-
-  word_no_help : (names : Names) (is_trailing : Bool) (waiting : Waiting) (position : ℕ) (word : Text) (h : Held)
-      → word_fault s names is_trailing waiting word h ≡ [] → step_helps (word_met s.rules names is_trailing waiting position word h).1
-      ≡ false
-  word_no_help names true waiting position word h e = refl
-  word_no_help names false waiting position word h e = other_no_help (subcommand_met names waiting word) waiting position word h e
-
-  after_step_no_help : (word : Text) (w : Walk) (h : Held) (step : Step) → step_helps step ≡ false → stop_helps w.stopped ≡ false
-      → stop_helps (after_step s.rules word w h step).stopped ≡ false
-  after_step_no_help word w h (next waiting) step before = before
-  after_step_no_help word w h (trailing position) step before = before
-  after_step_no_help word w h (subcommand name) step before = step
-  after_step_no_help word w h value step before = go (arg_by_index s.rules w.position)
-    where
-      go : (o : Option Rule) → stop_helps (to_positional s.rules o word w h).stopped ≡ false
-      go None = before
-      go (Some a) = refl
-
-  turn_no_help : (names : Names) (w : Walk) (word : Text) → turn_fault s names w word ≡ [] → stop_helps w.stopped ≡ false
-      → stop_helps (walked_from s.rules names w.stopped w word).stopped ≡ false
-  turn_no_help names w word e before = go w.stopped e before
-    where
-      go : (o : Option (Text × List Text))
-          → cond (is_some o) [] (or_else (word_fault s names w.is_trailing w.waiting word w.held)
-          (step_fault s w.position (word_met s.rules names w.is_trailing w.waiting w.position word w.held).0
-          (word_met s.rules names w.is_trailing w.waiting w.position word w.held).1)) ≡ []
-          → stop_helps o ≡ false → stop_helps (walked_from s.rules names o w word).stopped ≡ false
-      go (Some p) e stop = stop
-      go None e stop =
-          let met = word_met s.rules names w.is_trailing w.waiting w.position word w.held in
-          after_step_no_help word w met.0 met.1 (word_no_help names w.is_trailing w.waiting w.position word
-          w.held (neither (word_fault s names w.is_trailing w.waiting word w.held)
-          (step_fault s w.position met.0 met.1) e).0) before
-
-  -- it does not stop at `help`
-  pub walk_no_help : (names : Names) (w : Walk) (words : List Text) → walk_fault s names w words ≡ [] → stop_helps w.stopped ≡ false
-      → stop_helps (fold (walked s.rules names) w words).stopped ≡ false
-  unfolding walk_fault walked
-  walk_no_help names w [] e before = before
-  walk_no_help names w (word ∷ rest) e before =
-      let n = neither _ _ e in
-      walk_no_help names (walked s.rules names w word) rest n.1 (turn_no_help names w word n.0 before)
