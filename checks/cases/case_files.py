@@ -9,7 +9,7 @@ from checks.shared.text import Words, Wrong, words_of
 
 
 # a file of so many bytes, zeros behind the first ones
-Sparse = namedtuple("Sparse", "front size")
+Sparse = namedtuple("Sparse", "front size place end")
 # a socket at which nobody listens
 SOCKET = object()
 
@@ -123,7 +123,8 @@ class Case:
 
     def sparse(self, words):
         size = words.number()
-        return Sparse(self.front_of(words, self.images) if words.take("=") else b"", size)
+        front = self.front_of(words, self.images) if words.take("=") else b""
+        return Sparse(front, size, *((words.number(), words.data()) if words.take("at") else (0, b"")))
 
     def front_of(self, words, table):
         """The bytes of what a name stands for, or the first ones."""

@@ -8,8 +8,8 @@ counts M beside N.
     image NAME = OTHER              the image `empty`, `sample` or OTHER, and edits; sealed only if a line says `seal`
     requests NAME [= OTHER [first N]]   requests by name, a line each (checks/shared/messages.py), after the first bytes of others
     answers NAME                    replies that several runs have, a line each (checks/shared/replies.py)
-    file NAME DATA                  what a file holds before a run; `file NAME sparse SIZE [= IMAGE]` has that many bytes, zeros
-                                    behind those of the image, which take no blocks
+    file NAME DATA                  what a file holds before a run; `file NAME sparse SIZE [= IMAGE] [at PLACE DATA]` has that many
+                                    bytes, zeros but for those of the image and these, which take no blocks
     folder NAME
     socket NAME                     at which nobody listens any more
     $ strata WORDS [< NAME] [> NAME] [2> NAME]
@@ -125,6 +125,8 @@ class Started:
                 with open(path, "wb") as out:
                     out.write(value.front if isinstance(value, Sparse) else value)
                     if isinstance(value, Sparse):
+                        out.seek(value.place)
+                        out.write(value.end)
                         out.truncate(value.size)
 
     def pipes(self):

@@ -20,6 +20,7 @@ from strata_mount.plan import TREE
 
 UNREADABLE = re.compile(r"image (\d+): cannot be read")
 UNSEALED = re.compile(r"image (\d+): not as sealed")
+FAR = re.compile(r"image (\d+): trailer ends beyond 4 GiB")
 BROKEN = re.compile(r"layer (\d+) at [0-9a-f]{8,}: (.*)")
 TOO_MANY = re.compile(r"layers: (\d+), allowed 1 to 128")
 FRONT = 36 << 10
@@ -85,6 +86,11 @@ def explained_line(said, images, store):
     if found and int(found[1]) < len(images):
         path = images[int(found[1])]
         return ["image %s is %s: %s" % (found[1], shown(os.fsencode(path)), unsealed(path))]
+    found = FAR.fullmatch(said)
+    if found and int(found[1]) < len(images):
+        path = images[int(found[1])]
+        return ["image %s is %s: -o whole reads it, into %d MiB of memory; images that `strata-layers` makes have their trailer "
+                "below 4 GiB" % (found[1], shown(os.fsencode(path)), image_files.size_of(path) >> 20)]
     if TOO_MANY.fullmatch(said):
         return ["%d images were named, and at most 128 can be stacked: unpack some adjacent ones into one directory; %s" % (
             len(images), MAKE)]

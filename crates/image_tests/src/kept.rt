@@ -263,3 +263,73 @@ fn a_failed_read_of_a_trailer_is_told(rt: HostRuntime) {
     let told = look_behind(rt.alloc(), &file_with_trailer(900, 5));
     assert_eq!(rt; told, Err(GatherFault::Unread));
 }
+
+/// A file of this many bytes: an image of this full size, and after it a trailer of one row, for the
+/// root. A read returns one byte.
+#[derive(Drop)]
+struct Long {
+    size: u64,
+    front: [u8; 64],
+    full: u64,
+    trailer: [u8; 48],
+}
+
+fn long(size: u64, full: u32) -> Long {
+    let mut front = *b"-rom1fs-\0\0\0\0\0\0\0\0v\0\0\0\0\0\0\0\0\0\0\0\0\0\0\0\
+        \0\0\0\x09\0\0\0\x20\0\0\0\0\0\0\0\0.\0\0\0\0\0\0\0\0\0\0\0\0\0\0\0";
+    front[8..12].copy_from_slice(&full.to_be_bytes());
+    Long {
+        size,
+        front,
+        full: u64::from(full),
+        trailer: *b"-attr01-\0\0\0\x01\0\0\0\0\0\0\0\x20\0\0\x01\xa4\0\0\0\0\0\0\0\0\0\0\0\0\
+            \0\0\0\0\0\0\0\0\0\0\0\0",
+    }
+}
+
+impl Long {
+    fn byte(&self, place: u64) -> u8 {
+        if place < 64 {
+            return self.front[place as usize];
+        }
+        if self.full <= place && place - self.full < 48 {
+            return self.trailer[(place - self.full) as usize];
+        }
+        0
+    }
+}
+
+impl Contents for Long {
+    ghost use Rattle.devices.specs.Sources.{unknown};
+
+    ghost source = { λ _. unknown };
+
+    fn size(&self) -> u64 {
+        self.size
+    }
+
+    fn read_at(&self, room: &mut [u8], offset: u64) -> Result<usize, Unread> {
+        if room.is_empty() || self.size <= offset {
+            return Ok(0);
+        }
+        room[0] = self.byte(offset);
+        Ok(1)
+    }
+}
+
+// How many bytes are kept with the trailer.
+fn kept_len<A: Allocator + Copy>(alloc: A, source: &Long) -> Result<usize, GatherFault> {
+    Ok(
+        gather_with_trailer(alloc, source, Grain::Byte)?
+            .held()
+            .len(),
+    )
+}
+
+#[test]
+fn a_trailer_that_ends_too_far_is_told(rt: HostRuntime) {
+    let far = kept_len(rt.alloc(), &long(1 << 32, 0xffff_ffd0));
+    assert_eq!(rt; far, Err(GatherFault::Far));
+    let near = kept_len(rt.alloc(), &long(1 << 32, 0xffff_ffc0));
+    assert_eq!(rt; near, Ok(0xffff_fff0));
+}

@@ -1,5 +1,5 @@
--- What is loaded from a file of a kind, in terms that name no kind.
-use Rattle.std.proofs.Common.{◌≡◌, sym, subst, ℕ, List, Option, IfOk, IfSome, Result, Ok, Err}
+-- What is loaded from a file of a kind, in terms that name no kind; and why nothing was (not_gathered, if_far).
+use Rattle.std.proofs.Common.{◌≡◌, ◌⊎◌, inl, inr, sym, subst, refl, ℕ, List, Option, IfOk, IfErr, IfSome, Result, Ok, Err}
 use Rattle.romfs_files.specs.declared.opening.FileKind.{FileKind}
 use Rattle.romfs_files.specs.declared.opening.FileKind.TheVariants.{Regular, BlockDevice, Stream}
 use Rattle.romfs_files.specs.declared.image_data.ImageData.{ImageData}
@@ -8,13 +8,18 @@ use Rattle.romfs_files.specs.declared.loaded.LoadedImage.{LoadedImage}
 use Rattle.romfs_files.specs.declared.loaded.Loading.{Loading}
 use Rattle.romfs_files.specs.declared.loaded.Loading.TheVariants as how
 use Rattle.romfs_files.specs.declared.loaded.Trailers.{Trailers}
-use Rattle.devices.specs.Sources.{IfShown, unknown}
+use Rattle.romfs_files.specs.declared.loaded.Trailers.TheVariants.{Read, Left}
+use Rattle.romfs_kept.specs.declared.fault.GatherFault.{GatherFault}
+use Rattle.romfs_kept.specs.declared.fault.GatherFault.TheVariants as gather
+use Rattle.romfs_kept.specs.Gathered.{IsFar}
+use Rattle.devices.specs.Sources.{Source, IfShown, unknown}
 use Rattle.romfs_held.specs.declared.image.HeldImage.{HeldImage}
 use Rattle.romfs_held.specs.declared.image.HeldImage.TheVariants.{Kept, Whole}
 use Rattle.romfs_files.specs.Data.{source_of}
-use Rattle.romfs_files.specs.Loaded.{IsKeptWith, IsOpenOver}
+use Rattle.romfs_files.specs.Loaded.{IsKeptWith, IsNotGathered, IsOpenOver}
 use Rattle.romfs_files.specs.Opening.{AreOfFile, IsHeldAs, IsLoadedAs}
 use Rattle.romfs_files.specs.Files.{IsHeldWith, IsLoadedOf, IsWholeOf}
+use Rattle.romfs_files.specs.Reading.{IsLoadFault}
 
 kept_with : {A : Type 0} (known : Option (List ℕ)) (trailers its : Trailers) (held : HeldImage A) → its ≡ trailers
     → IsKeptWith unknown trailers held → IsHeldWith known trailers its held
@@ -63,3 +68,19 @@ pub opened_as : {F A E : Type 0} (kind : FileKind) (known : Option (List ℕ)) (
 opened_as kind known loading trailers source (Err e) is of over = tt
 opened_as kind known loading trailers source (Ok image) is of over = subst (λ l. IsLoadedAs kind known l image) (sym is)
     (record { source = source; of_file = of; over = over })
+
+-- why nothing was gathered is why nothing is loaded
+pub not_gathered : {X Holds : Type 0} (trailers : Trailers) (source : Source) (result : Result X GatherFault)
+    → (trailers ≡ Read → IfShown source IsFar → Holds) → IfErr result (IsNotGathered trailers source) → IfErr result (IsLoadFault Holds)
+not_gathered trailers source (Ok x) holds is = tt
+not_gathered Read source (Err fault) holds (inl (inl memory)) = inl (inl memory)
+not_gathered Read source (Err fault) holds (inl (inr unread)) = inl (inr unread.0)
+not_gathered Read source (Err fault) holds (inr far) = inr (far.0, holds refl far.1)
+not_gathered Left source (Err fault) holds (inl memory) = inl (inl memory)
+not_gathered Left source (Err fault) holds (inr unread) = inl (inr unread.0)
+
+-- what holds of a trailer that ends too far
+pub if_far : {Holds : Type 0} (fault : GatherFault) → fault ≡ gather.Far → IsLoadFault Holds fault → Holds
+if_far fault is (inl (inl memory)) = absurd (cc)
+if_far fault is (inl (inr unread)) = absurd (cc)
+if_far fault is (inr far) = far.1

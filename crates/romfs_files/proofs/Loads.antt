@@ -28,14 +28,14 @@ module _ {F A : Type 0} (known : F → Option (List ℕ)) (loading : Loading) wh
 
   -- the images of two halves, each of its own digests
   pub both_loaded : (first : ℕ) (ds es digests : List (Option Digest)) (low high all : List (LoadedImage F A))
-      (end : Result (Unit {0}) FilesFault) → ds ++ es ≡ digests → IsReadUpTo first ds (length low) end
+      (end : Result (Unit {0}) FilesFault) → ds ++ es ≡ digests → IsReadUpTo loading first ds (length low) end
       → (all ≡ low) ⊎ ((end ≡ Ok tt) × (all ≡ low ++ high)) → AreLoadedBy known loading ds low
       → AreLoadedBy known loading es high → AreLoadedBy known loading digests all
   both_loaded first ds es digests low high all end joined run (inl only) lower upper =
       subst (λ images. AreLoadedBy known loading digests images) (sym only)
       (subst (λ l. AreLoadedBy known loading l low) joined (more_digests ds es low lower))
   both_loaded first ds es digests low high all end joined run (inr (done, two)) lower upper =
-      let whole : length low ≡ length ds = subst (IsReadUpTo first ds (length low)) done run in
+      let whole : length low ≡ length ds = subst (IsReadUpTo loading first ds (length low)) done run in
       subst (λ images. AreLoadedBy known loading digests images) (sym two)
       (subst (λ l. AreLoadedBy known loading l (low ++ high)) joined (then_more ds es low high whole lower upper))
 

@@ -1,8 +1,9 @@
 -- What is loaded from data that are read under a digest.
 use Rattle.std.proofs.Common.{◌≡◌, sym, ap, subst, ℕ, None, Result, Ok, Err, IfOk, length}
-use Rattle.devices.specs.Sources.{IsSizeOf, MayGive, sealed}
+use Rattle.devices.specs.Sources.{IfShown, IsSizeOf, MayGive, sealed}
 use Rattle.romfs_seal.specs.declared.digest.Digest.{Digest}
-use Rattle.romfs_seal.specs.Named.{Named}
+use Rattle.romfs_seal.specs.Named.{Named, seal_of}
+use Rattle.romfs_kept.specs.Gathered.{IsFar}
 use Rattle.romfs_held.specs.declared.image.HeldImage.TheVariants as held
 use Rattle.std.specs.declared.vec.Vec.{Vec}
 use Rattle.romfs_files.specs.declared.image_data.ImageData.{ImageData}
@@ -11,7 +12,7 @@ use Rattle.romfs_files.specs.declared.loaded.LoadedImage.{LoadedImage}
 use Rattle.romfs_files.specs.declared.loaded.Trailers.{Trailers}
 use Rattle.romfs_files.specs.Data.{source_of}
 use Rattle.romfs_files.specs.Loaded.{IsKeptOf, IsLetGo, IsOpenOver}
-use Rattle.romfs_files.specs.Sealing.{IsGoneAs, IsHeldUnder, IsNameUnder, IsOpenAs, IsOpenUnder, IsUnder, IsWholeOver, IsWholeUnder, seal_by}
+use Rattle.romfs_files.specs.Sealing.{IsFarUnder, IsGoneAs, IsHeldUnder, IsNameUnder, IsOpenAs, IsOpenUnder, IsUnder, IsWholeOver, IsWholeUnder, seal_by}
 
 -- the data of a file of such a name are under the digest
 pub under_name : {F A : Type 0} (digest : Digest) (name : Named) → IsNameUnder digest name → IsUnder {F = F} {A = A} digest (Sealed name)
@@ -57,4 +58,11 @@ whole_under digest source bytes image under given sized held_is none = record {
   whole = subst (λ h. IsWholeOver (sealed (seal_by digest under.size)) h) (sym held_is)
       (subst (λ s. MayGive s 0 bytes.items) under.is given, subst (λ s. IsSizeOf s (length bytes.items)) under.is sized);
   let_go = none;
+}
+
+-- a trailer that ends too far in the bytes of a file of such a name does so under the digest
+pub far_under : (digest : Digest) (name : Named) → IsNameUnder digest name → IfShown (sealed (seal_of name)) IsFar → IsFarUnder digest
+far_under digest name under far = record {
+  size = under.size;
+  far = subst (λ s. IfShown (sealed s) IsFar) under.is far;
 }

@@ -2,10 +2,14 @@
 use Rattle.std.specs.Prelude.{◌≡◌, ℕ, List, [], ◌∷◌, ◌++◌, Option, Some, None, map}
 use Rattle.devices.specs.Sources.{Source, sealed, unknown}
 use Rattle.romfs_seal.specs.Named.{seal_of}
-use Rattle.romfs_kept.specs.Gathered.{IsGathered, IsGatheredWithTrailer}
+use Rattle.romfs_kept.specs.declared.fault.GatherFault.{GatherFault}
+use Rattle.romfs_kept.specs.Gathered.{IsCauseWithTrailer, IsGathered, IsGatheredWithTrailer}
+use Rattle.romfs_kept.specs.Reads.{IsCause}
 use Rattle.romfs_held.specs.declared.image.HeldImage.{HeldImage}
 use Rattle.romfs_held.specs.declared.image.HeldImage.TheVariants as held
 use Rattle.romfs_files.specs.declared.loaded.LoadedImage.{LoadedImage}
+use Rattle.romfs_files.specs.declared.loaded.Loading.{Loading}
+use Rattle.romfs_files.specs.declared.loaded.Loading.TheVariants as how
 use Rattle.romfs_files.specs.declared.loaded.Trailers.{Trailers}
 use Rattle.romfs_files.specs.declared.loaded.Trailers.TheVariants.{Read, Left}
 use Rattle.romfs_files.specs.declared.image_data.ImageData.{ImageData}
@@ -17,6 +21,17 @@ use Rattle.romfs_files.specs.Data.{source_of}
 abbrev pub WasGathered : Trailers → Source → List ℕ → Type 0
 WasGathered Read source kept = IsGatheredWithTrailer source kept
 WasGathered Left source kept = IsGathered source kept
+
+-- why nothing was: with the trailer, it may also end too far
+abbrev pub IsNotGathered : Trailers → Source → GatherFault → Type 0
+IsNotGathered Read source fault = IsCauseWithTrailer source fault
+IsNotGathered Left source fault = IsCause source fault
+
+-- a trailer is read, and not all other bytes
+abbrev pub ReadsTrailer : Loading → Type 0
+ReadsTrailer how.Whole = ⊥
+ReadsTrailer (how.Open trailers) = trailers ≡ Read
+ReadsTrailer (how.Gather trailers) = trailers ≡ Read
 
 -- what the rules look at is held: it was gathered from this source, with its trailer if trailers
 -- are read

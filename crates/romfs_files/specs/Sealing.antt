@@ -2,7 +2,8 @@
 use Rattle.std.specs.Prelude.{◌≡◌, ℕ, List, [], ◌∷◌, Option, Some, None, length, ⊤}
 use Rattle.devices.specs.Given.{anything}
 use Rattle.devices.specs.Seal.{Seal}
-use Rattle.devices.specs.Sources.{Source, sealed, IsSizeOf, MayGive}
+use Rattle.devices.specs.Sources.{Source, sealed, IfShown, IsSizeOf, MayGive}
+use Rattle.romfs_kept.specs.Gathered.{IsFar}
 use Rattle.romfs_seal.specs.declared.digest.Digest.{Digest}
 use Rattle.romfs_seal.specs.Digests.{digest_bytes, made_by, sha}
 use Rattle.romfs_seal.specs.Named.{Named, seal_of}
@@ -71,6 +72,11 @@ pub record IsHeldUnder {F A : Type 0} (digest : Digest) (trailers : Trailers)
   pub size : ℕ
   pub kept : IsKeptOf (sealed (seal_by digest size)) trailers image
   pub let_go : image.source ≡ None
+
+-- the trailer ends too far in any bytes that are shown under this digest
+pub record IsFarUnder (digest : Digest) : Type 0 where
+  pub size : ℕ
+  pub far : IfShown (sealed (seal_by digest size)) IsFar
 
 -- what is loaded from a file under its digest
 abbrev pub IsLoadedUnder : {F A : Type 0} → Digest → Loading → LoadedImage F A → Type 0

@@ -5,7 +5,10 @@
 //! be read) comes before one of the upper. All images below the reported one were therefore read.
 
 ghost use Rattle.std.specs.Prelude.{◌≡◌, ◌⊎◌, ◌+◌, ◌<◌, ◌^◌, ℕ, List, ◌++◌, get_or, length, vec_len, Option, None, Some, Ok, IfOk, IfErr, OnOk};
-ghost use Rattle.romfs_files.specs.Sealing.{AreLoadedBy, IsLoadedBy, IsLoadedUnder};
+ghost use Rattle.romfs_files.specs.Files.{IsLoadedOf};
+ghost use Rattle.romfs_files.specs.Loaded.{ReadsTrailer};
+ghost use Rattle.romfs_files.specs.Reading.{IsLoadFault};
+ghost use Rattle.romfs_files.specs.Sealing.{AreLoadedBy, IsFarUnder, IsLoadedBy, IsLoadedUnder};
 ghost use Rattle.romfs_files.specs.Unread.{IsReadUpTo, IsUnreadAt};
 ghost use Rattle.romfs_files.specs.declared.images.FilesFault.TheVariants.{Memory};
 ghost use Rattle.romfs_seal.specs.declared.digest.Digest.{Digest};
@@ -15,10 +18,11 @@ use crate::loaded::{LoadedImage, Loading};
 use crate::opening::{at_places, load_file};
 use crate::sealing::load_sealed;
 use romfs_kept::GatherFault;
-use romfs_seal::{Digest, SealFault};
+use romfs_seal::Digest;
 use std::alloc::{AllocError, AllocFailed, Allocator};
 use std::fs;
-use std::fs::Files;
+use std::fs::{Files, OpenFile};
+use std::io::{Read, Seek};
 use std::os::unix::fs::FileExt;
 use std::thread::{Threads, join};
 
@@ -36,6 +40,8 @@ pub enum FilesFault {
     Unread { image: u64 },
     /// The file of this image, counted from 0, or the file of its tree is not the named one.
     Unsealed { image: u64 },
+    /// The trailer of this image, counted from 0, ends at 2^32 or beyond.
+    Far { image: u64 },
     /// Memory ran out.
     Memory,
 }
@@ -69,7 +75,8 @@ impl<T: Drop> From<AllocFailed<T>> for FilesFault {
 /// opened, for example because too many are open; if a read fails or gives fewer bytes than the
 /// file reported; or if a device reports no end. A full size beyond the end of the file is no fault
 /// here. `Unsealed` if an image or its tree is not the one that the digest names, or cannot be
-/// read; no byte of a pipe is read. `Memory` also if a trailer that is read ends at 2^32 or beyond.
+/// read; no byte of a pipe is read. `Far` if a trailer that is read ends at 2^32 or beyond, and not
+/// all bytes are read: under a digest, only if it does so in the named file.
 pub fn load<R: Files + Threads + Sync, A: Allocator + Copy + Send + Sync>(
     rt: &R,
     alloc: A,
@@ -86,7 +93,7 @@ where
         AreLoadedBy R.File.remaining loading digests.now images.items) }
     ensures err { IfErr result (λ fault. (fault ≡ Memory)
         ⊎ ((image : ℕ) × (image < length paths.now)
-        × IsUnreadAt image (get_or digests.now image None) fault)) }
+        × IsUnreadAt loading image (get_or digests.now image None) fault)) }
 {
     let Run { images, end } = load_from(rt, alloc, 0, paths, digests, loading, FORKS);
     end?;
@@ -117,7 +124,7 @@ where
     R::Dir: Send,
     requires few { first + length paths.now < 2 ^ 64 }
     requires each { length digests.now ≡ length paths.now }
-    ensures count { IsReadUpTo first digests.now (vec_len result.images) result.end }
+    ensures count { IsReadUpTo loading first digests.now (vec_len result.images) result.end }
     ensures read { AreLoadedBy R.File.remaining loading digests.now result.images.items }
 {
     if forks == 0 || paths.len() < MANY {
@@ -135,7 +142,7 @@ where
             requires { IsSync R.row × IsSync A.row × IsSend A.row
                 × Frees A.Allocator A.dealloc_token × (next + length highs.now < 2 ^ 64)
                 × (length high_digests.now ≡ length highs.now) }
-            ensures count { IsReadUpTo next high_digests.entry.now (vec_len result.images)
+            ensures count { IsReadUpTo loading next high_digests.entry.now (vec_len result.images)
                 result.end }
             ensures read { AreLoadedBy R.File.remaining loading high_digests.entry.now
                 result.images.items }
@@ -144,7 +151,7 @@ where
             requires { IsSync R.row × IsSync A.row × IsSend A.row
                 × Frees A.Allocator A.dealloc_token × (first + length lows.now < 2 ^ 64)
                 × (length low_digests.now ≡ length lows.now) }
-            ensures count { IsReadUpTo first low_digests.entry.now (vec_len result.images)
+            ensures count { IsReadUpTo loading first low_digests.entry.now (vec_len result.images)
                 result.end }
             ensures read { AreLoadedBy R.File.remaining loading low_digests.entry.now
                 result.images.items }
@@ -158,10 +165,10 @@ where
 fn both<T: Drop, A: Allocator>(low: Run<T, A>, high: Run<T, A>) -> Run<T, A>
     ensures order { OnOk result.end (result.images.items
         ≡ low.images.items ++ high.images.items) }
-    ensures read { (first : ℕ) (lows highs : List (Option Digest)) →
-        IsReadUpTo first lows (vec_len low.images) low.end →
-        IsReadUpTo (first + length lows) highs (vec_len high.images) high.end →
-        IsReadUpTo first (lows ++ highs) (vec_len result.images) result.end }
+    ensures read { (loading : Loading) (first : ℕ) (lows highs : List (Option Digest)) →
+        IsReadUpTo loading first lows (vec_len low.images) low.end →
+        IsReadUpTo loading (first + length lows) highs (vec_len high.images) high.end →
+        IsReadUpTo loading first (lows ++ highs) (vec_len result.images) result.end }
     ensures either { (result.images.items ≡ low.images.items)
         ⊎ ((low.end ≡ Ok tt) × (result.images.items ≡ low.images.items ++ high.images.items)) }
 {
@@ -198,7 +205,7 @@ where
     R::File: FileExt,
     requires few { first + length paths.now < 2 ^ 64 }
     requires each { length digests.now ≡ length paths.now }
-    ensures count { IsReadUpTo first digests.now (vec_len result.images) result.end }
+    ensures count { IsReadUpTo loading first digests.now (vec_len result.images) result.end }
     ensures read { AreLoadedBy R.File.remaining loading digests.now result.images.items }
 {
     let mut images = Vec::new(alloc);
@@ -222,7 +229,7 @@ where
     requires empty { vec_len images.old ≡ 0 }
     requires few { first + length paths.now < 2 ^ 64 }
     requires each { length digests.now ≡ length paths.now }
-    ensures count { IsReadUpTo first digests.now (vec_len images.new) result }
+    ensures count { IsReadUpTo loading first digests.now (vec_len images.new) result }
     ensures read { AreLoadedBy R.File.remaining loading digests.now images.new.items }
 {
     images.reserve_exact(paths.len())?;
@@ -244,15 +251,31 @@ fn load_one<R: Files, A: Allocator + Copy>(
 where
     R::File: FileExt,
     ensures ok { IfOk result (IsLoadedBy R.File.remaining loading digest) }
-    ensures err { IfErr result (λ fault. IsUnreadAt image digest fault ⊎ (fault ≡ Memory)) }
+    ensures err { IfErr result (λ fault. IsUnreadAt loading image digest fault
+        ⊎ (fault ≡ Memory)) }
 {
     let file = fs::open(rt, path).map_err(|_| FilesFault::Unread { image })?;
     if let Some(digest) = digest {
         return load_named(rt, alloc, image, path, file, digest, loading);
     }
+    load_plain(alloc, image, file, loading)
+}
+
+/// Loads the file of an image without a digest.
+fn load_plain<F: Read + Seek + OpenFile + FileExt + Drop, A: Allocator + Copy>(
+    alloc: A,
+    image: u64,
+    file: F,
+    loading: Loading,
+) -> Result<LoadedImage<F, A>, FilesFault>
+    ensures ok { IfOk result (IsLoadedOf (F.remaining file) loading) }
+    ensures err { IfErr result (λ fault. IsUnreadAt loading image None fault
+        ⊎ (fault ≡ Memory)) }
+{
     match load_file(alloc, file, loading) {
         Ok(loaded) => Ok(loaded),
         Err(GatherFault::Unread) => Err(FilesFault::Unread { image }),
+        Err(GatherFault::Far) => Err(FilesFault::Far { image }),
         Err(GatherFault::Memory) => Err(FilesFault::Memory),
     }
 }
@@ -270,13 +293,14 @@ fn load_named<R: Files, A: Allocator + Copy>(
 where
     R::File: FileExt,
     ensures ok { IfOk result (IsLoadedUnder digest loading) }
-    ensures err { IfErr result (λ fault. IsUnreadAt image (Some digest) fault
+    ensures err { IfErr result (λ fault. IsUnreadAt loading image (Some digest) fault
         ⊎ (fault ≡ Memory)) }
 {
     match load_with_tree(rt, alloc, path, file, digest, loading) {
         Ok(loaded) => Ok(loaded),
-        Err(SealFault::Memory) => Err(FilesFault::Memory),
-        Err(_) => Err(FilesFault::Unsealed { image }),
+        Err(GatherFault::Unread) => Err(FilesFault::Unsealed { image }),
+        Err(GatherFault::Far) => Err(FilesFault::Far { image }),
+        Err(GatherFault::Memory) => Err(FilesFault::Memory),
     }
 }
 
@@ -287,14 +311,15 @@ fn load_with_tree<R: Files, A: Allocator + Copy>(
     file: R::File,
     digest: Digest,
     loading: Loading,
-) -> Result<LoadedImage<R::File, A>, SealFault>
+) -> Result<LoadedImage<R::File, A>, GatherFault>
 where
     R::File: FileExt,
-    ensures { IfOk result (IsLoadedUnder digest loading) }
+    ensures ok { IfOk result (IsLoadedUnder digest loading) }
+    ensures err { IfErr result (IsLoadFault (ReadsTrailer loading × IsFarUnder digest)) }
 {
     let name = format!(in alloc; "{path}.verity")?;
-    let tree = fs::open(rt, name.as_str()).map_err(|_| SealFault::Unread)?;
-    let image = at_places(file).map_err(|_| SealFault::Unread)?;
-    let tree = at_places(tree).map_err(|_| SealFault::Unread)?;
+    let tree = fs::open(rt, name.as_str()).map_err(|_| GatherFault::Unread)?;
+    let image = at_places(file).map_err(|_| GatherFault::Unread)?;
+    let tree = at_places(tree).map_err(|_| GatherFault::Unread)?;
     load_sealed(alloc, image, tree, digest, loading)
 }

@@ -1,9 +1,8 @@
 //! Images that were loaded from their files.
 
 ghost use Rattle.std.specs.Prelude.{◌≡◌, None, IfOk, IfErr};
-ghost use Rattle.romfs_kept.specs.Reads.{IsCause};
 ghost use Rattle.romfs_files.specs.Data.{source_of};
-ghost use Rattle.romfs_files.specs.Loaded.{AreApart, IsKeptOf, IsOpenOver, IsLetGo, WasGathered, added};
+ghost use Rattle.romfs_files.specs.Loaded.{AreApart, IsKeptOf, IsNotGathered, IsOpenOver, IsLetGo, WasGathered, added};
 
 use crate::image_data::ImageData;
 use devices::Contents;
@@ -40,15 +39,15 @@ pub struct LoadedImage<F: FileExt, A: Allocator> {
 }
 
 /// The image of these data, which stay open. Reads what the rules look at, with the trailer if
-/// requested. `Unread` if a read fails, or if the data end before the reported size; `Memory` only
-/// if memory was refused, or if a trailer ends at 2^32 or beyond.
+/// requested. `Unread` if a read fails, or if the data end before the reported size; `Far` only if
+/// a trailer ends at 2^32 or beyond; `Memory` only if memory was refused.
 pub(crate) fn open<F: FileExt + Drop, A: Allocator + Copy>(
     alloc: A,
     source: ImageData<F, A>,
     trailers: Trailers,
 ) -> Result<LoadedImage<F, A>, GatherFault>
     ensures ok { IfOk result (IsOpenOver source trailers) }
-    ensures err { IfErr result (IsCause (source_of source)) }
+    ensures err { IfErr result (IsNotGathered trailers (source_of source)) }
 {
     let mut image = kept_of(alloc, &source, source.grain(), trailers)?;
     image.source = Some(source);
@@ -62,7 +61,8 @@ pub(crate) fn let_go<F: FileExt + Drop, A: Allocator + Copy>(
     source: ImageData<F, A>,
     trailers: Trailers,
 ) -> Result<LoadedImage<F, A>, GatherFault>
-    ensures { IfOk result (IsLetGo source trailers) }
+    ensures ok { IfOk result (IsLetGo source trailers) }
+    ensures err { IfErr result (IsNotGathered trailers (source_of source)) }
 {
     match source {
         ImageData::File(file) => kept_of(alloc, &file, Grain::Byte, trailers),
@@ -92,7 +92,7 @@ pub(crate) fn kept_of<F: FileExt, S: Contents, A: Allocator + Copy>(
 ) -> Result<LoadedImage<F, A>, GatherFault>
     ensures ok { IfOk result (IsKeptOf (S.source source.now) trailers) }
     ensures source { IfOk result (λ image. image.source ≡ None) }
-    ensures err { IfErr result (IsCause (S.source source.now)) }
+    ensures err { IfErr result (IsNotGathered trailers (S.source source.now)) }
 {
     Ok(LoadedImage {
         held: HeldImage::Kept(gather_as(alloc, source, grain, trailers)?),
@@ -108,7 +108,7 @@ fn gather_as<S: Contents, A: Allocator + Copy>(
     trailers: Trailers,
 ) -> Result<Kept<A>, GatherFault>
     ensures ok { IfOk result (WasGathered trailers (S.source source.now)) }
-    ensures err { IfErr result (IsCause (S.source source.now)) }
+    ensures err { IfErr result (IsNotGathered trailers (S.source source.now)) }
 {
     match trailers {
         Trailers::Read => gather_with_trailer(alloc, source, grain),

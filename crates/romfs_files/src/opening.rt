@@ -4,9 +4,11 @@
 //! regular file, or a block device, whose size is found by a seek to its end. Any other file is a
 //! stream, and is read in full.
 
-ghost use Rattle.std.specs.Prelude.{◌≡◌, ◌↔◌, IfOk, IsTrue, MatchResult};
+ghost use Rattle.std.specs.Prelude.{◌≡◌, ◌↔◌, IfOk, IfErr, IsTrue, MatchResult};
 ghost use Rattle.romfs_files.specs.Opening.{AreOfFile, IsBlockDevice, IsKindOf, IsLoadedAs};
 ghost use Rattle.romfs_files.specs.Files.{IsLoadedOf};
+ghost use Rattle.romfs_files.specs.Loaded.{ReadsTrailer};
+ghost use Rattle.romfs_files.specs.Reading.{IsLoadFault, IsReadFault};
 
 use crate::image_data::ImageData;
 use crate::loaded::{LoadedImage, Loading, let_go, open, whole};
@@ -74,21 +76,24 @@ pub(crate) fn load_file<F: Read + Seek + OpenFile + FileExt + Drop, A: Allocator
     file: F,
     loading: Loading,
 ) -> Result<LoadedImage<F, A>, GatherFault>
-    ensures { IfOk result (IsLoadedOf (F.remaining file) loading) }
+    ensures ok { IfOk result (IsLoadedOf (F.remaining file) loading) }
+    ensures err { IfErr result (IsLoadFault (ReadsTrailer loading)) }
 {
     let kind = told_kind(file.metadata());
     load_as(alloc, file, kind, loading)
 }
 
 /// Loads the image of a file of this kind, which is at its beginning. `Unread` if a read fails, if
-/// a device reports no end, or if the file ends before the size that it reported.
+/// a device reports no end, or if the file ends before the size that it reported; `Far` if a trailer
+/// that is read ends at 2^32 or beyond.
 pub fn load_as<F: Read + Seek + OpenFile + FileExt + Drop, A: Allocator + Copy>(
     alloc: A,
     file: F,
     kind: FileKind,
     loading: Loading,
 ) -> Result<LoadedImage<F, A>, GatherFault>
-    ensures { IfOk result (IsLoadedAs kind (F.remaining file) loading) }
+    ensures ok { IfOk result (IsLoadedAs kind (F.remaining file) loading) }
+    ensures err { IfErr result (IsLoadFault (ReadsTrailer loading)) }
 {
     match loading {
         Loading::Whole => Ok(whole(read_file(alloc, file)?)),
@@ -103,7 +108,8 @@ fn data_of<F: Read + Seek + OpenFile + FileExt + Drop, A: Allocator>(
     mut file: F,
     kind: FileKind,
 ) -> Result<ImageData<F, A>, GatherFault>
-    ensures { IfOk result (AreOfFile kind (F.remaining file)) }
+    ensures ok { IfOk result (AreOfFile kind (F.remaining file)) }
+    ensures err { IfErr result IsReadFault }
 {
     match kind {
         FileKind::Regular { size } => Ok(ImageData::File(InFile::new(file, size))),
@@ -130,6 +136,8 @@ pub(crate) fn at_places<F: Seek + OpenFile + FileExt + Drop>(
 }
 
 /// How many bytes a file has before its end.
-fn end_of<F: Seek>(file: &mut F) -> Result<u64, GatherFault> {
+fn end_of<F: Seek>(file: &mut F) -> Result<u64, GatherFault>
+    ensures { IfErr result IsReadFault }
+{
     file.seek(SeekFrom::End(0)).map_err(|_| GatherFault::Unread)
 }

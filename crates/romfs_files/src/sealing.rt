@@ -1,9 +1,12 @@
 //! Images under a digest.
 
-ghost use Rattle.std.specs.Prelude.{length, IfOk};
-ghost use Rattle.devices.specs.Sources.{IsSizeOf, MayGive};
+ghost use Rattle.std.specs.Prelude.{length, IfOk, IfErr};
+ghost use Rattle.devices.specs.Sources.{IsSizeOf, MayGive, sealed};
+ghost use Rattle.romfs_seal.specs.Named.{seal_of};
 ghost use Rattle.romfs_seal.specs.declared.digest.Digest.{Digest};
-ghost use Rattle.romfs_files.specs.Sealing.{IsGoneAs, IsLoadedUnder, IsNameUnder, IsOpenAs};
+ghost use Rattle.romfs_files.specs.Loaded.{IsNotGathered, ReadsTrailer};
+ghost use Rattle.romfs_files.specs.Reading.{IsLoadFault, IsReadFault};
+ghost use Rattle.romfs_files.specs.Sealing.{IsFarUnder, IsGoneAs, IsLoadedUnder, IsNameUnder, IsOpenAs};
 
 use crate::image_data::ImageData;
 use crate::loaded::{LoadedImage, Loading, Trailers, kept_of, whole};
@@ -26,24 +29,21 @@ type Unshared<F, A> = SealedImage<Files<InFile<F>, InFile<F>, Recent<A>>, A>;
 /// bytes that are read are those of the named file, unless a read gives, instead of a block, another
 /// with the same digest.
 ///
-/// `Digest` and `Length` if the files are not the named ones, `Length` also if the file has 2^33
-/// bytes or more, `Unread` if a read fails or gives a block with another digest, and `Memory` if
-/// memory was refused, or if a trailer ends at 2^32 or beyond.
+/// `Unread` if the files are not the named ones, if the image has 2^33 bytes or more, or if a read
+/// fails or gives a block with another digest; `Far` only if a trailer that is read ends at 2^32 or
+/// beyond in the named file; `Memory` if memory was refused.
 pub fn load_sealed<F: FileExt + Drop, A: Allocator + Copy>(
     alloc: A,
     image: InFile<F>,
     tree: InFile<F>,
     digest: Digest,
     loading: Loading,
-) -> Result<LoadedImage<F, A>, SealFault>
-    ensures { IfOk result (IsLoadedUnder digest loading) }
+) -> Result<LoadedImage<F, A>, GatherFault>
+    ensures ok { IfOk result (IsLoadedUnder digest loading) }
+    ensures err { IfErr result (IsLoadFault (ReadsTrailer loading × IsFarUnder digest)) }
 {
     let source = under_digest(alloc, image, tree, digest)?;
-    match load_under(alloc, source, loading) {
-        Ok(image) => Ok(image),
-        Err(GatherFault::Unread) => Err(SealFault::Unread),
-        Err(GatherFault::Memory) => Err(SealFault::Memory),
-    }
+    load_under(alloc, source, loading)
 }
 
 fn load_under<F: FileExt + Drop, A: Allocator + Copy>(
@@ -51,8 +51,10 @@ fn load_under<F: FileExt + Drop, A: Allocator + Copy>(
     source: Unshared<F, A>,
     loading: Loading,
 ) -> Result<LoadedImage<F, A>, GatherFault>
-    ensures { (digest : Digest) → IsNameUnder digest source →
+    ensures ok { (digest : Digest) → IsNameUnder digest source →
         IfOk result (IsLoadedUnder digest loading) }
+    ensures err { (digest : Digest) → IsNameUnder digest source →
+        IfErr result (IsLoadFault (ReadsTrailer loading × IsFarUnder digest)) }
 {
     match loading {
         Loading::Whole => Ok(whole(all_of(alloc, &source.shared())?)),
@@ -67,7 +69,8 @@ fn open_sealed<F: FileExt + Drop, A: Allocator + Copy>(
     source: Unshared<F, A>,
     trailers: Trailers,
 ) -> Result<LoadedImage<F, A>, GatherFault>
-    ensures { IfOk result (IsOpenAs source trailers) }
+    ensures ok { IfOk result (IsOpenAs source trailers) }
+    ensures err { IfErr result (IsNotGathered trailers (sealed (seal_of source))) }
 {
     let mut image = kept_of(alloc, &source, Grain::Block, trailers)?;
     image.source = Some(ImageData::Sealed(source.shared()));
@@ -80,7 +83,8 @@ fn gather_sealed<F: FileExt + Drop, A: Allocator + Copy>(
     source: Unshared<F, A>,
     trailers: Trailers,
 ) -> Result<LoadedImage<F, A>, GatherFault>
-    ensures { IfOk result (IsGoneAs source trailers) }
+    ensures ok { IfOk result (IsGoneAs source trailers) }
+    ensures err { IfErr result (IsNotGathered trailers (sealed (seal_of source))) }
 {
     kept_of(alloc, &source, Grain::Block, trailers)
 }
@@ -89,6 +93,7 @@ fn gather_sealed<F: FileExt + Drop, A: Allocator + Copy>(
 fn all_of<S: Contents, A: Allocator>(alloc: A, source: &S) -> Result<Vec<u8, A>, GatherFault>
     ensures given { IfOk result (λ bytes. MayGive (S.source source.now) 0 bytes.items) }
     ensures size { IfOk result (λ bytes. IsSizeOf (S.source source.now) (length bytes.items)) }
+    ensures err { IfErr result IsReadFault }
 {
     let size = source.size() as usize;
     let mut bytes = Vec::new(alloc);
@@ -105,12 +110,13 @@ fn under_digest<F: FileExt + Drop, A: Allocator + Copy>(
     image: InFile<F>,
     tree: InFile<F>,
     digest: Digest,
-) -> Result<Unshared<F, A>, SealFault>
-    ensures { IfOk result (IsNameUnder digest) }
+) -> Result<Unshared<F, A>, GatherFault>
+    ensures ok { IfOk result (IsNameUnder digest) }
+    ensures err { IfErr result IsReadFault }
 {
     let size = image.size();
     if size >= TOO_LARGE {
-        return Err(SealFault::Length);
+        return Err(GatherFault::Unread);
     }
     let files = Files {
         image,
@@ -119,5 +125,9 @@ fn under_digest<F: FileExt + Drop, A: Allocator + Copy>(
         digest,
         size,
     };
-    SealedImage::open(alloc, files)
+    match SealedImage::open(alloc, files) {
+        Ok(source) => Ok(source),
+        Err(SealFault::Memory) => Err(GatherFault::Memory),
+        Err(_) => Err(GatherFault::Unread),
+    }
 }

@@ -1,10 +1,10 @@
 //! Files that are read in full.
 
-ghost use Rattle.std.specs.Prelude.{◌≡◌, IfSome, OnOk, IfOk};
+ghost use Rattle.std.specs.Prelude.{◌≡◌, IfSome, OnOk, IfOk, IfErr};
 ghost use Rattle.std.specs.Io.KnownBytes.{IsAtEnd};
 ghost use Rattle.devices.specs.Counting.{no_pulls};
 ghost use Rattle.romfs_files.specs.Files.{AreBytesOf};
-ghost use Rattle.romfs_files.specs.Reading.{IsReadThrough};
+ghost use Rattle.romfs_files.specs.Reading.{IsReadFault, IsReadThrough};
 
 use devices::limits::{MAX_TURNS, PULL_SIZE};
 use devices::{Source, Tap};
@@ -19,7 +19,8 @@ pub fn read_file<F: Read + OpenFile + Drop, A: Allocator>(
     alloc: A,
     file: F,
 ) -> Result<Vec<u8, A>, GatherFault>
-    ensures { IfOk result (AreBytesOf (F.remaining file)) }
+    ensures ok { IfOk result (AreBytesOf (F.remaining file)) }
+    ensures err { IfErr result IsReadFault }
 {
     let length = told_length(&file);
     read_all(alloc, &mut Tap::new(file), length)
@@ -37,6 +38,7 @@ fn read_all<S: Source, A: Allocator>(
         IfSome (S.state source.old).left (λ known. bytes.items ≡ known)) }
     ensures end { OnOk result (IsAtEnd (S.state source.new).left) }
     ensures pulls { IsReadThrough (S.state source.new).counts result }
+    ensures err { IfErr result IsReadFault }
 {
     let mut bytes = Vec::with_capacity(alloc, length)?;
     let mut room = [0u8; PULL_SIZE];

@@ -1,6 +1,6 @@
 -- What is read from a trailer: whether one begins at a place (not_there, letters_there, begins_there), how
--- much of it is kept (end_..), and of its second part (part_..), and what (tail_read). Put after what was
--- gathered it is gathered, too (with_none, with_tail).
+-- much of it is kept (end_..), and of its second part (part_..), and what (tail_read), or why it is not
+-- (tail_far, not_read). Put after what was gathered it is gathered, too (with_none, with_tail).
 use Rattle.std.proofs.Common.{◌≡◌, ◌∙◌, sym, ap, subst, ℕ, ◌+◌, ◌-◌, ◌/◌, ◌^◌, ◌<◌, ◌≤◌, ◌⊎◌, inl, inr, min, if◌then◌else◌, true, false, Bool, List, length, take, drop, Some, None, refl, arith, length-drop, length-take, length-take-le, ◌&&◌}
 use Rattle.std.specs.Prelude.{nat_eq, nat_le, nat_lt, codes}
 use Rattle.std.specs.List.{starts_with}
@@ -10,14 +10,15 @@ use Rattle.std.proofs.lemmas.List.{get_or-drop, get_or-take, ext_get_or, take-ta
 use Rattle.std.proofs.lemmas.Bool.Decides.{nat_tests}
 use Rattle.romfs_format.specs.Fields.{word, padded}
 use Rattle.romfs_format.specs.Trailer.{row_count, row_start, trailer_end, part}
-use Rattle.devices.specs.Sources.{Source, IsSizeOf}
+use Rattle.devices.specs.Sources.{Source, IfShown, IsSizeOf}
 use Rattle.romfs_held.specs.Blocks.{IsFollowed}
 use Rattle.romfs_held.proofs.Fields.{word_same}
 use Rattle.romfs_held.proofs.Views.{short_front}
 use Rattle.romfs_kept.specs.Footprint.{reach}
-use Rattle.romfs_kept.specs.Gathered.{begins_trailer, kept_part, kept_end, kept_tail, IsGathered, IsGatheredOf, IsGatheredWithTrailer, IsGatheredWithTrailerOf}
+use Rattle.romfs_kept.specs.declared.fault.GatherFault.{GatherFault}
+use Rattle.romfs_kept.specs.Gathered.{begins_trailer, kept_part, kept_end, kept_tail, IsCauseWithTrailer, IsFarAt, IsGathered, IsGatheredOf, IsGatheredWithTrailer, IsGatheredWithTrailerOf}
 use Rattle.romfs_kept.specs.Reads.{HasBytesAt, IsHeld}
-use Rattle.romfs_kept.specs.Tails.{BeginsTrailer, BeginsWith, IsPartEnd, IsRoom, IsTail, IsTailEnd, end_of}
+use Rattle.romfs_kept.specs.Tails.{BeginsTrailer, BeginsWith, IsPartEnd, IsRoom, IsTail, IsTailCause, IsTailEnd, end_of}
 use Rattle.romfs_kept.proofs.Reading.{room_shown}
 
 -- the letters are not at a place
@@ -194,6 +195,31 @@ tail_read source place room full end tail p r0 s0 e0 h0 l = record {
       let all : tail ≡ kept_tail full (drop place b) = t ∙ ap (λ n. take n (drop place b)) e in
       (sym (ap (begins_trailer b) p) ∙ sym s, all ∙ ap (λ n. kept_tail full (drop n b)) p);
 }
+
+-- what would be kept ends too far
+pub tail_far : (source : Source) (place room full end : ℕ) → place ≡ padded full → IsRoom source place room
+    → BeginsTrailer source place true → IsTailEnd source place full end → 2 ^ 32 ≤ place + min room end → IfShown source (IsFarAt full)
+tail_far source place room full end p r0 s0 e0 l = record {
+  each = λ b v.
+      let r : room ≡ length b - place = room_shown source place room r0 b v in
+      let s = s0.each b v in
+      let e = e0.each b v in
+      let d = length-drop place b in
+      let t = length-take end (drop place b) in
+      let k = ap (λ n. length (take n (drop place b))) e in
+      let far : 2 ^ 32 ≤ place + length (kept_tail full (drop place b)) = omega arith in
+      record {
+        begins = sym (ap (begins_trailer b) p) ∙ sym s;
+        far = subst (λ n. 2 ^ 32 ≤ n + length (kept_tail full (drop n b))) p far;
+      };
+}
+
+-- why the trailer was not read is why nothing was gathered
+pub not_read : (source : Source) (front : List ℕ) (full : ℕ) (fault : GatherFault) → IsGathered source front → full ≡ length front
+    → IsTailCause source full fault → IsCauseWithTrailer source fault
+not_read source front full fault g e (inl cause) = inl cause
+not_read source front full fault g e (inr (is, far)) =
+    inr (is, record { each = λ b v. subst (λ n. IsFarAt n b) (e ∙ (g.each b v).long) (far.each b v) })
 
 -- how many bytes follow a place
 pub room_is : (source : Source) (size place room : ℕ) → IsSizeOf source size → room ≡ size - place → IsRoom source place room

@@ -1,12 +1,15 @@
 -- What is kept of an image.
-use Rattle.std.specs.Prelude.{◌≡◌, ℕ, ◌+◌, ◌/◌, ◌^◌, ◌≤◌, ◌&&◌, List, length, take, drop, Bool, true, false, nat_eq, nat_le, nat_lt, codes, if◌then◌else◌}
+use Rattle.std.specs.Prelude.{◌≡◌, ℕ, ◌+◌, ◌/◌, ◌^◌, ◌≤◌, ◌⊎◌, ◌&&◌, List, length, take, drop, Bool, true, false, nat_eq, nat_le, nat_lt, codes, if◌then◌else◌}
 use Rattle.std.specs.List.{starts_with}
 use Rattle.devices.specs.Sources.{Source, IfShown}
 use Rattle.romfs_format.specs.declared.limits.TheConstants.{TRAILER_HEAD_SIZE, PART_HEAD_SIZE}
 use Rattle.romfs_format.specs.Fields.{padded}
 use Rattle.romfs_format.specs.Part.{part_size}
 use Rattle.romfs_format.specs.Trailer.{row_count, trailer_end, part}
+use Rattle.romfs_kept.specs.declared.fault.GatherFault.{GatherFault}
+use Rattle.romfs_kept.specs.declared.fault.GatherFault.TheVariants.{Far}
 use Rattle.romfs_kept.specs.Footprint.{IsClosed, is_same, reach}
+use Rattle.romfs_kept.specs.Reads.{IsCause}
 
 -- the list is as long as what is looked at, and has its bytes at a closed set of headers
 pub record IsGatheredOf (b a : List ℕ) : Type 0 where
@@ -47,6 +50,15 @@ kept_end full t =
 abbrev pub kept_tail : ℕ → List ℕ → List ℕ
 kept_tail full t = take (kept_end full t) t
 
+-- a trailer begins after this full size, and what is kept of it ends at 2^32 or beyond
+pub record IsFarAt (full : ℕ) (b : List ℕ) : Type 0 where
+  pub begins : begins_trailer b (padded full) ≡ true
+  pub far : 2 ^ 32 ≤ padded full + length (kept_tail full (drop (padded full) b))
+
+-- the same after what is looked at
+abbrev pub IsFar : List ℕ → Type 0
+IsFar b = IsFarAt (reach b) b
+
 -- what was gathered, followed by what is kept of the trailer, if one begins there
 pub record IsGatheredWithTrailerOf (b a : List ℕ) : Type 0 where
   pub short : length a ≤ length b
@@ -58,3 +70,7 @@ pub record IsGatheredWithTrailerOf (b a : List ℕ) : Type 0 where
 -- the same of any bytes that the source shows
 abbrev pub IsGatheredWithTrailer : Source → List ℕ → Type 0
 IsGatheredWithTrailer source a = IfShown source (λ b. IsGatheredWithTrailerOf b a)
+
+-- why it was not gathered so: for the reasons of the front, or since the trailer ends too far
+abbrev pub IsCauseWithTrailer : Source → GatherFault → Type 0
+IsCauseWithTrailer source fault = IsCause source fault ⊎ ((fault ≡ Far) × IfShown source IsFar)

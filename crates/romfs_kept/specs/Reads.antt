@@ -2,7 +2,7 @@
 use Rattle.std.specs.Prelude.{◌≡◌, ◌≢◌, ℕ, ◌+◌, ◌<◌, ◌≤◌, ◌%◌, ◌⊎◌, List, length, take, get_or, Option, MatchOption}
 use Rattle.devices.specs.Sources.{Source, MayFail, IsSizeOf, IfShown}
 use Rattle.romfs_kept.specs.declared.fault.GatherFault.{GatherFault}
-use Rattle.romfs_kept.specs.declared.fault.GatherFault.TheVariants.{Memory}
+use Rattle.romfs_kept.specs.declared.fault.GatherFault.TheVariants.{Unread, Memory}
 use Rattle.romfs_kept.specs.declared.pieces.Piece.{Piece}
 use Rattle.romfs_kept.specs.Pieces.{HasBlock, AreRight}
 
@@ -12,9 +12,9 @@ pub record AreWithin (source : Source) (n : ℕ) : Type 0 where
   pub is : IsSizeOf source size
   pub fits : n ≤ size
 
--- memory failed, or a read may fail
+-- memory failed; or a read did, which may fail
 abbrev pub IsCause : Source → GatherFault → Type 0
-IsCause source fault = (fault ≡ Memory) ⊎ MayFail source
+IsCause source fault = (fault ≡ Memory) ⊎ ((fault ≡ Unread) × MayFail source)
 
 -- the room has the bytes of xs from the place on, and zeros after their end
 pub record HasBytesAt (xs : List ℕ) (at : ℕ) (room : List ℕ) : Type 0 where

@@ -1,10 +1,13 @@
 -- What is read from a trailer.
-use Rattle.std.specs.Prelude.{◌≡◌, ℕ, ◌-◌, ◌/◌, ◌&&◌, List, drop, Bool, false, true, Option, Some, None, nat_eq, nat_le, if◌then◌else◌}
+use Rattle.std.specs.Prelude.{◌≡◌, ℕ, ◌-◌, ◌/◌, ◌⊎◌, ◌&&◌, List, drop, Bool, false, true, Option, Some, None, nat_eq, nat_le, if◌then◌else◌}
 use Rattle.std.specs.List.{starts_with}
 use Rattle.devices.specs.Sources.{Source, IsSizeOf, IfShown}
 use Rattle.romfs_format.specs.Fields.{padded}
 use Rattle.romfs_format.specs.Trailer.{row_start}
-use Rattle.romfs_kept.specs.Gathered.{begins_trailer, kept_part, kept_end, kept_tail}
+use Rattle.romfs_kept.specs.declared.fault.GatherFault.{GatherFault}
+use Rattle.romfs_kept.specs.declared.fault.GatherFault.TheVariants.{Far}
+use Rattle.romfs_kept.specs.Gathered.{IsFarAt, begins_trailer, kept_part, kept_end, kept_tail}
+use Rattle.romfs_kept.specs.Reads.{IsCause}
 
 -- there are this many bytes from the place on
 pub record IsRoom (source : Source) (place room : ℕ) : Type 0 where
@@ -45,3 +48,8 @@ abbrev pub IsTail : Source → ℕ → List ℕ → Type 0
 IsTail source full tail =
     IfShown source (λ b. (begins_trailer b (padded full) ≡ true)
     × (tail ≡ kept_tail full (drop (padded full) b)))
+
+-- why the trailer after this full size was not read
+abbrev pub IsTailCause : Source → ℕ → GatherFault → Type 0
+IsTailCause source full fault =
+    IsCause source fault ⊎ ((fault ≡ Far) × IfShown source (IsFarAt full))

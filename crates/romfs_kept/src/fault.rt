@@ -10,7 +10,9 @@ use std::alloc::{AllocError, AllocFailed};
 pub enum GatherFault {
     /// A read failed, or the bytes ended before the reported size.
     Unread,
-    /// Memory was refused, or a trailer ends beyond the places that can be kept.
+    /// The trailer ends at 2^32 or beyond: the places that can be kept are numbers of 32 bits.
+    Far,
+    /// Memory was refused.
     Memory,
 }
 

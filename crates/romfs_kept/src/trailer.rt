@@ -4,10 +4,10 @@
 //! the walk kept.
 
 ghost use Rattle.std.specs.Prelude.{◌≡◌, ◌+◌, ◌*◌, ◌/◌, ◌<◌, ◌≤◌, ◌^◌, length, IfOk, IfErr, IfSome, IsTrue, MatchOption, OnOk};
-ghost use Rattle.romfs_kept.specs.Gathered.{IsGatheredWithTrailer};
-ghost use Rattle.romfs_kept.specs.Reads.{AreWithin, IsCause, IsHeld};
+ghost use Rattle.romfs_kept.specs.Gathered.{IsCauseWithTrailer, IsGatheredWithTrailer};
+ghost use Rattle.romfs_kept.specs.Reads.{IsCause};
 ghost use Rattle.romfs_kept.specs.Tails.{BeginsTrailer, BeginsWith, IsNoTail, IsPartEnd, IsRoom};
-ghost use Rattle.romfs_kept.specs.Tails.{IsTail, IsTailEnd, end_of};
+ghost use Rattle.romfs_kept.specs.Tails.{IsTail, IsTailCause, IsTailEnd, end_of};
 
 use crate::fault::GatherFault;
 use crate::gathering::gather;
@@ -26,7 +26,7 @@ const LETTERS: &[u8; 8] = b"-attr01-";
 const PART_LETTERS: &[u8; 8] = b"-attr02-";
 
 /// The end of the word that has this part's size.
-const PART_SIZE_END: u64 = 12;
+const PART_SIZE_END: usize = 12;
 
 /// Nothing is kept from here on: places are numbers of 32 bits.
 const PLACES: u64 = 1 << 32;
@@ -36,16 +36,16 @@ const PLACES: u64 = 1 << 32;
 /// headers, which breaks it in any case. Only the letters of a second part that is cut off are
 /// kept.
 ///
-/// The errors are those of `gather`, and `Memory` if a trailer does not end below 2^32, since there
-/// is no room for it. It takes at most five more reads, and the trailer's bytes twice while they
-/// are put after the others.
+/// The errors are those of `gather`, and `Far` only if what would be kept of the trailer ends at
+/// 2^32 or beyond. It takes at most five more reads, and the trailer's bytes twice while they are
+/// put after the others.
 pub fn gather_with_trailer<S: Contents, A: Allocator + Copy>(
     alloc: A,
     source: &S,
     grain: Grain,
 ) -> Result<Kept<A>, GatherFault>
     ensures ok { IfOk result (IsGatheredWithTrailer (S.source source.now)) }
-    ensures err { IfErr result (IsCause (S.source source.now)) }
+    ensures err { IfErr result (IsCauseWithTrailer (S.source source.now)) }
 {
     let front = gather(alloc, source, grain)?;
     let full = front.held().len() as u32;
@@ -66,7 +66,7 @@ fn read_trailer<S: Contents, A: Allocator>(
         (λ tail. IsTail (S.source source.now) full tail.items)) }
     ensures small { IfOk result (λ read. IfSome read
         (λ tail. (full + 15) / 16 * 16 + length tail.items < 2 ^ 32)) }
-    ensures err { IfErr result (IsCause (S.source source.now)) }
+    ensures err { IfErr result (IsTailCause (S.source source.now) full) }
 {
     let place = padded(full as usize);
     let room = source.size().saturating_sub(place as u64);
@@ -75,7 +75,11 @@ fn read_trailer<S: Contents, A: Allocator>(
         return Ok(None);
     }
     let end = tail_end(source, &mut tail, place, room, full)?;
-    read_tail(source, &mut tail, place, room.min(end))?;
+    let count = room.min(end);
+    if place as u64 + count >= PLACES {
+        return Err(GatherFault::Far);
+    }
+    load(source, &mut tail, place, count as usize)?;
     Ok(Some(tail))
 }
 
@@ -115,7 +119,7 @@ fn begins_with<S: Contents, A: Allocator>(
     if room < 8 {
         return Ok(false);
     }
-    read_tail(source, tail, place, 8)?;
+    load(source, tail, place, 8)?;
     Ok(tail.starts_with(letters))
 }
 
@@ -136,7 +140,7 @@ fn tail_end<S: Contents, A: Allocator>(
     if room < TRAILER_HEAD_SIZE as u64 {
         return Ok(TRAILER_HEAD_SIZE as u64);
     }
-    read_tail(source, tail, place, TRAILER_HEAD_SIZE as u64)?;
+    load(source, tail, place, TRAILER_HEAD_SIZE)?;
     match end_of(word(tail, 8), room, full) {
         None => Ok(TRAILER_HEAD_SIZE as u64),
         Some(end) => {
@@ -176,35 +180,14 @@ fn part_end<S: Contents, A: Allocator>(
     if !begins_with(source, tail, place, room, PART_LETTERS)? {
         return Ok(0);
     }
-    if room < PART_SIZE_END {
+    if room < PART_SIZE_END as u64 {
         return Ok(8);
     }
-    read_tail(source, tail, place, PART_SIZE_END)?;
+    load(source, tail, place, PART_SIZE_END)?;
     let size = u64::from(word(tail, 8));
     if PART_HEAD_SIZE as u64 <= size && size <= room {
         Ok(size)
     } else {
         Ok(8)
     }
-}
-
-/// Reads this many bytes from a place on, and replaces earlier ones.
-fn read_tail<S: Contents, A: Allocator>(
-    source: &S,
-    tail: &mut Vec<u8, A>,
-    place: usize,
-    count: u64,
-) -> Result<(), GatherFault>
-    requires place { place < 2 ^ 42 }
-    requires count { count < 2 ^ 41 }
-    requires within { AreWithin (S.source source.now) (place + count) }
-    ensures small { OnOk result (place + count < 2 ^ 32) }
-    ensures long { OnOk result (length tail.new.items ≡ count) }
-    ensures held { OnOk result (IsHeld (S.source source.now) place tail.new.items) }
-    ensures err { IfErr result (IsCause (S.source source.now)) }
-{
-    if place as u64 + count >= PLACES {
-        return Err(GatherFault::Memory);
-    }
-    load(source, tail, place, count as usize)
 }

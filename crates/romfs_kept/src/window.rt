@@ -154,7 +154,7 @@ pub fn load<S: Contents, A: Allocator>(
     at: usize,
     count: usize,
 ) -> Result<(), GatherFault>
-    requires few { at + count < 2 ^ 32 }
+    requires few { at + count < 2 ^ 43 }
     requires within { AreWithin (S.source source.now) (at + count) }
     ensures long { OnOk result (length bytes.new.items ≡ count) }
     ensures held { OnOk result (IsHeld (S.source source.now) at bytes.new.items) }
@@ -167,7 +167,7 @@ pub fn load<S: Contents, A: Allocator>(
 
 /// Fills a room with the bytes from a place on.
 fn load_room<S: Contents>(source: &S, room: &mut [u8], at: u64) -> Result<(), GatherFault>
-    requires few { at + length room.old < 2 ^ 32 }
+    requires few { at + length room.old < 2 ^ 43 }
     requires within { AreWithin (S.source source.now) (at + length room.old) }
     ensures held { OnOk result (IsHeld (S.source source.now) at room.new) }
     ensures err { IfErr result (IsCause (S.source source.now)) }

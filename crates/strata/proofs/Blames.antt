@@ -85,7 +85,8 @@ fault_3 fault s is = record {
 -- and so does each of images
 images_status : (fault : ImagesFault) → HasStatusOf (Images fault)
 images_status (faults.Unread image) = fault_1 (Images (faults.Unread image)) refl (inl (faults.Unread image, refl, (image, refl)))
-images_status (faults.Unsealed image) = fault_3 (faults.Unsealed image) refl (inr (inr (image, refl)))
+images_status (faults.Unsealed image) = fault_3 (faults.Unsealed image) refl (inr (inr (inl (image, refl))))
+images_status (faults.Far image) = fault_3 (faults.Far image) refl (inr (inr (inr (image, refl))))
 images_status (faults.Broken image fault) = fault_3 (faults.Broken image fault) refl (inl (image, fault, refl))
 images_status (faults.Layers count) = fault_3 (faults.Layers count) refl (inr (inl (count, refl)))
 images_status faults.Write = record {

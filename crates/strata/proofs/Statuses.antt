@@ -20,11 +20,11 @@ use Rattle.strata.specs.declared.faults.Fault.{Fault}
 use Rattle.strata.specs.declared.faults.Fault.TheVariants.{RequestsFile, RepliesFile, BalancesFile, Bind, Accept, Images, InSession, Stopped}
 use Rattle.strata_images.specs.declared.faults.ImagesFault.{ImagesFault}
 use Rattle.strata_images.specs.declared.faults.ImagesFault.TheVariants as faults
-use Rattle.strata_images.specs.Faults.{refusal_told_of, status_of as images_status}
-use Rattle.strata_images.specs.Images.{AreNotStacked, profile_of}
+use Rattle.strata_images.specs.Faults.{status_of as images_status}
+use Rattle.strata_images.specs.Images.{AreNotStacked, profile_of, refusal_told_of}
 use Rattle.strata.specs.Faults.{IsOfImages, status_of, out_of_memory, line_told_of}
 use Rattle.strata.specs.Ending.{HasUnreadImage, IsStoppedOver, IsDone, EndsInFault, EndsWith, IsOver, IsOverWith, IsRunOf}
-use Rattle.strata.specs.Laws.{AreBad, AreToBlame, AreUnsealed}
+use Rattle.strata.specs.Laws.{AreBad, AreFar, AreToBlame, AreUnsealed}
 use Rattle.strata.specs.Sessions.{status_at}
 use Rattle.strata.proofs.Blames.{stop_of}
 use Rattle.strata.proofs.Ended.{IsStatus, fault_range, fault_status}
@@ -54,6 +54,7 @@ five_is_other e = absurd (omega arith)
 two_is_other : (fault : ImagesFault) → images_status fault ≢ 2
 two_is_other (faults.Unread image) = one_is_other
 two_is_other (faults.Unsealed image) = three_is_other
+two_is_other (faults.Far image) = three_is_other
 two_is_other (faults.Broken image fault) = three_is_other
 two_is_other (faults.Layers count) = three_is_other
 two_is_other faults.Write = one_is_other
@@ -192,28 +193,37 @@ words_less : (line : LineFault) → status_of (line_told_of line) ≢ 3
 words_less (lines.Usage text) e = two_is_less e
 words_less lines.Memory e = five_is_more e
 
--- images that were not read have another status, unless one is not as sealed
-unread_less : {words : List (List ℕ)} (fault : Fault) → HasUnreadImage words fault → status_of fault ≡ 3 → AreUnsealed words fault
+-- images that were not read have another status, unless one is not as sealed or its trailer ends too far
+unread_less : {words : List (List ℕ)} (fault : Fault) → HasUnreadImage words fault → status_of fault ≡ 3
+    → AreUnsealed words fault ⊎ AreFar words fault
 unread_less fault unread e =
     let f = unread.unread in
     elim f.2 [
       | inl u ↦ elim u.2 [
         | inl gone ↦ absurd (one_is_less (three_of fault (Images (faults.Unread u.0)) (f.1 ∙ ap Images gone) e))
-        | inr unsealed ↦ record {
+        | inr (inl unsealed) ↦ inl (record {
           line = unread.line;
           line_is = unread.line_is;
           image = u.0;
           named = u.1;
           digested = unsealed.1;
           told = f.1 ∙ ap Images unsealed.0;
-        }
+        })
+        | inr (inr far) ↦ inr (record {
+          line = unread.line;
+          line_is = unread.line_is;
+          image = u.0;
+          named = u.1;
+          far = far.1;
+          told = f.1 ∙ ap Images far.0;
+        })
       ]
       | inr m ↦ absurd (five_is_more (three_of fault (Images faults.Memory) (f.1 ∙ ap Images m) e))
     ]
 
 -- with the status 3 the images are to blame
 pub ends_for_images : (A : Type 0) (words : List (List ℕ)) (old new : Devices) (e : EndsWith A words 3 old new)
-    → AreToBlame words ⊎ (AreUnsealed words e.fault × (new ≡ old))
+    → AreToBlame words ⊎ ((AreUnsealed words e.fault ⊎ AreFar words e.fault) × (new ≡ old))
 ends_for_images A words old new e =
     let three : status_of e.fault ≡ 3 = sym e.status_is in
     elim e.stopped [

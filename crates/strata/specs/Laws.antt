@@ -19,7 +19,7 @@ use Rattle.strata.specs.Faults.{IsOfImages, stop_status, status_of}
 use Rattle.strata.specs.Sessions.{ServedSession}
 use Rattle.strata_images.specs.declared.faults.ImagesFault.{ImagesFault}
 use Rattle.strata_images.specs.declared.faults.ImagesFault.TheVariants as faults
-use Rattle.strata_images.specs.Faults.{HasDigestFor}
+use Rattle.strata_images.specs.Faults.{HasDigestFor, MayBeFarFor}
 use Rattle.strata_images.specs.Images.{NamesAsMany, profile_of}
 
 -- there are none or too many, or one of them breaks a rule of the profile
@@ -42,6 +42,15 @@ pub record AreUnsealed (words : List (List ℕ)) (fault : Fault) : Type 0 where
   pub named : image < vec_len line.images
   pub digested : HasDigestFor line image
   pub told : fault ≡ Images (faults.Unsealed image)
+
+-- the arguments name an image with this number, whose trailer was read and ends too far
+pub record AreFar (words : List (List ℕ)) (fault : Fault) : Type 0 where
+  pub line : Line
+  pub line_is : IsLineOf words line
+  pub image : ℕ
+  pub named : image < vec_len line.images
+  pub far : MayBeFarFor line image
+  pub told : fault ≡ Images (faults.Far image)
 
 -- a session was served to its end
 abbrev pub IsWhole : {A : Type 0} {first : Session} {by : Sourced} → ServedSession A first by
@@ -108,12 +117,13 @@ IsOfFiles fault =
 abbrev pub IsOfStreams : StreamFault → Type 0
 IsOfStreams stop = (stop ≡ Read) ⊎ (stop ≡ Write)
 
--- an image is not as sealed or broken, or there are none or too many
+-- an image is broken or not as sealed, or its trailer ends too far; or there are none or too many
 abbrev pub AreAtFault : ImagesFault → Type 0
 AreAtFault fault =
     ((image : ℕ) × (broken : ImageFault) × (fault ≡ faults.Broken image broken))
     ⊎ (((count : ℕ) × (fault ≡ faults.Layers count))
-    ⊎ ((image : ℕ) × (fault ≡ faults.Unsealed image)))
+    ⊎ (((image : ℕ) × (fault ≡ faults.Unsealed image))
+    ⊎ ((image : ℕ) × (fault ≡ faults.Far image))))
 
 -- the requests are no stream of messages, or do not end
 abbrev pub IsOfRequests : StreamFault → Type 0

@@ -27,7 +27,7 @@ ghost use Rattle.serve_device.specs.Ends.{end_of_stop};
 ghost use Rattle.strata.specs.Sessions.{first_fault, status_at, Accepting, AreServed, EndWith, IsSession, ServedSession};
 ghost use Rattle.strata.specs.declared.faults.Fault.{Fault};
 ghost use Rattle.strata.specs.declared.faults.Fault.TheVariants.{Stopped};
-ghost use Rattle.strata.specs.Laws.{AreToBlame, AreUnsealed, HasMetItsEnd, HasStatusOf, IsOfFirstStopped, IsWhole, TellsOfSessions};
+ghost use Rattle.strata.specs.Laws.{AreFar, AreToBlame, AreUnsealed, HasMetItsEnd, HasStatusOf, IsOfFirstStopped, IsWhole, TellsOfSessions};
 ghost use Rattle.strata.specs.Mounts.{is_taken_away, status_on_device, IsRunOnDevice, IsTakenAway, StopsWhere};
 
 use std::alloc::Allocator;
@@ -36,7 +36,8 @@ use std::os::unix::fs::FileExt;
 /// A status other than 0 is one of 1 to 5. With 2 the arguments are no command of the program, or
 /// have a malformed number or digest, a number out of range, or not a digest for each image, or
 /// name a file beside the device, and no device was touched. With 3 the images are none or more
-/// than 128, or one is broken, or one with a digest is not as sealed; that is the fault of the run.
+/// than 128, or one is broken, or one with a digest is not as sealed, or the trailer of one that is
+/// not read in full ends at 4 GiB or beyond; that is the fault of the run.
 pub fn statuses_tell<A: Allocator>()
     ensures range { (words : List (List ℕ)) (n : ℕ) (old new : Devices) →
         EndsWith A words n old new → (1 ≤ n) × (n ≤ 5) }
@@ -45,7 +46,8 @@ pub fn statuses_tell<A: Allocator>()
         (IsRefused words ⊎ (IsMisnumbered words ⊎ (IsCrossed words ⊎ IsMissealed words)))
         × (new ≡ old) }
     ensures images { (words : List (List ℕ)) (old new : Devices) (e : EndsWith A words 3 old new) →
-        AreToBlame words ⊎ (AreUnsealed words e.fault × (new ≡ old)) }
+        AreToBlame words
+        ⊎ ((AreUnsealed words e.fault ⊎ AreFar words e.fault) × (new ≡ old)) }
 {}
 
 /// The status of a fault says what is wrong: 1 files, sockets and streams; 2 the arguments; 3 the

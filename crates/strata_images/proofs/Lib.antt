@@ -8,3 +8,4 @@ pub mod Told
 pub mod ByDigest
 pub mod Noted
 pub mod Allowed
+pub mod Unread

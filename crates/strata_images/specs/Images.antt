@@ -20,6 +20,7 @@ use Rattle.romfs_files.specs.Loaded.{WasGathered}
 use Rattle.romfs_files.specs.Sealing.{IsHeldUnder, IsWholeUnder, seal_by}
 use Rattle.romfs_held.specs.declared.image.HeldImage.{HeldImage}
 use Rattle.stack_prepare.specs.declared.refusal.Refusal.{Refusal}
+use Rattle.stack_prepare.specs.declared.refusal.Refusal.TheVariants as refusals
 use Rattle.stack_prepare.specs.Layers.{AreRefused, held_contents, are_whole as all_held_whole}
 use Rattle.stack_prepare.specs.Preparing.{AreStacked}
 use Rattle.reply_model.specs.Readings.{Sourced}
@@ -27,7 +28,7 @@ use Rattle.strata_words.specs.declared.options.Line.{Line}
 use Rattle.strata_words.specs.declared.options.Verb.{Verb}
 use Rattle.strata_words.specs.declared.options.Verb.TheVariants as verbs
 use Rattle.strata_images.specs.declared.faults.ImagesFault.{ImagesFault}
-use Rattle.strata_images.specs.Faults.{refusal_told_of}
+use Rattle.strata_images.specs.declared.faults.ImagesFault.TheVariants.{Broken, Layers, Memory}
 
 -- whether a line asks for attributes, by an option for them alone or as a mount does
 abbrev pub asks_attributes : Line → Bool
@@ -159,6 +160,12 @@ pub record HaveSources (line : Line) (whole : Bool) (images : List (List ℕ))
 pub record ArePrepared (line : Line) (images : List (List ℕ)) (by : Sourced) : Type 0 where
   pub stacked : AreStacked (profile_of line) line.owner images by.stack
   pub sources : HaveSources line by.stack.whole images by.sources
+
+-- why images were not stacked, as a fault of images
+abbrev pub refusal_told_of : Refusal → ImagesFault
+refusal_told_of (refusals.Layer layer fault) = Broken layer fault
+refusal_told_of (refusals.Layers count) = Layers count
+refusal_told_of refusals.Memory = Memory
 
 -- why images are not stacked: one of them is at fault, or their number, or memory ran out
 pub record AreNotStacked (profile : Profile) (images : List (List ℕ))

@@ -8,7 +8,7 @@ use Rattle.romfs_format.specs.declared.limits.TheConstants.{HEAD_SIZE}
 use Rattle.strata_words.specs.declared.options.Line.{Line}
 use Rattle.strata_images.specs.Images.{asks_attributes}
 use Rattle.strata_images.specs.declared.faults.ImagesFault.{ImagesFault}
-use Rattle.strata_images.specs.declared.faults.ImagesFault.TheVariants.{Unread, Unsealed, Broken, Layers, Write, Memory}
+use Rattle.strata_images.specs.declared.faults.ImagesFault.TheVariants.{Unread, Unsealed, Far, Broken, Layers, Write, Memory}
 
 -- a place in an image as eight hexadecimal digits: zeros (48) and then its own
 abbrev pub place_text : ℕ → List ℕ
@@ -24,6 +24,8 @@ broken_text image fault =
 abbrev pub fault_text : ImagesFault → List ℕ
 fault_text (Unread image) = codes "image " ++ (decimal image ++ codes ": cannot be read")
 fault_text (Unsealed image) = codes "image " ++ (decimal image ++ codes ": not as sealed")
+fault_text (Far image) =
+    codes "image " ++ (decimal image ++ codes ": trailer ends beyond 4 GiB")
 fault_text (Broken image fault) = broken_text image fault
 fault_text (Layers count) = codes "layers: " ++ (decimal count ++ codes ", allowed 1 to 128")
 fault_text Write = codes "write fault"

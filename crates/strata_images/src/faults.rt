@@ -21,6 +21,8 @@ pub enum ImagesFault {
     Unread { image: u64 },
     /// The file of this image, counted from 0, or that of its tree does not match its digest.
     Unsealed { image: u64 },
+    /// The trailer of this image, counted from 0, which stays in its file, ends at 4 GiB or beyond.
+    Far { image: u64 },
     /// This image, counted from 0, breaks a rule.
     Broken { image: u64, fault: ImageFault },
     /// There are this many images: none, or more than 128.
@@ -39,6 +41,7 @@ impl ImagesFault {
         match self {
             ImagesFault::Unread { .. } | ImagesFault::Write => 1,
             ImagesFault::Unsealed { .. }
+            | ImagesFault::Far { .. }
             | ImagesFault::Broken { .. }
             | ImagesFault::Layers { .. } => 3,
             ImagesFault::Memory => 5,
@@ -55,6 +58,7 @@ impl fmt::Display for ImagesFault {
         match *self {
             ImagesFault::Unread { image } => write!(f, "image {image}: cannot be read"),
             ImagesFault::Unsealed { image } => write!(f, "image {image}: not as sealed"),
+            ImagesFault::Far { image } => write!(f, "image {image}: trailer ends beyond 4 GiB"),
             ImagesFault::Broken { image, fault } => {
                 write!(f, "layer {image} at {:08x}: {}", fault.place, fault.rule)
             }
@@ -74,13 +78,14 @@ impl From<FilesFault> for ImagesFault {
         match fault {
             FilesFault::Unread { image } => ImagesFault::Unread { image },
             FilesFault::Unsealed { image } => ImagesFault::Unsealed { image },
+            FilesFault::Far { image } => ImagesFault::Far { image },
             FilesFault::Memory => ImagesFault::Memory,
         }
     }
 }
 
 impl From<Refusal> for ImagesFault {
-    ghost use Rattle.strata_images.specs.Faults.{refusal_told_of};
+    ghost use Rattle.strata_images.specs.Images.{refusal_told_of};
 
     ghost from_gives = { λ refusal fault. fault ≡ refusal_told_of refusal };
 

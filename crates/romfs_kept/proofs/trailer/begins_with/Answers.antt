@@ -9,7 +9,7 @@ returns-then-room-lt8-clause-ok g c = too_short _ _ _ _ c.requires.room c.if-roo
 
 pub returns-clause-ok : goal.returns-clause-ok
 returns-clause-ok g c =
-    letters_there _ _ _ c.args.letters.now c.read_tail.new.tail.items _ c.requires.room (omega arith) c.told-letters
-    c.in_ok-read_tail.ensures.held c.in_ok-read_tail.ensures.long
+    letters_there _ _ _ c.args.letters.now c.load.new.bytes.items _ c.requires.room (omega arith) c.told-letters
+    c.in_ok-load.ensures.held c.in_ok-load.ensures.long
     (c.starts_with.ensures.value
     ∙ ap (λ t. pointwise nat_eq c.args.letters.now (take (length c.args.letters.now) t)) c.deref.ensures.value)

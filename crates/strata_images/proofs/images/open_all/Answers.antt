@@ -1,8 +1,9 @@
 use Rattle.std.proofs.Common.{◌∙◌, sym, subst, arith}
 use Rattle.romfs_files.specs.declared.loaded.Loading.TheVariants as how
 use Rattle.romfs_files.specs.Sealing.{AreLoadedBy}
-use Rattle.strata_images.specs.Images.{IsLoadingOf}
+use Rattle.strata_images.specs.Images.{IsLoadingOf, trailers_of}
 use Rattle.strata_images.proofs.Opened.{as_many_held, loaded_sources}
+use Rattle.strata_images.proofs.Unread.{unread_told}
 use Rattle.strata_images.proofs.images.open_all.Goals as goal
 
 pub returns-clause-named : goal.returns-clause-named
@@ -19,3 +20,10 @@ returns-clause-sources g c =
     (subst (λ ds. AreLoadedBy g.R.File.Read.remaining c.loading_of-loading.result ds c.in_ok-images.images.items)
     c.as_slice.ensures.value c.in_ok-images.ensures.loaded)
     c.in_ok-held.ensures
+
+pub returns-in_err-images-clause-err : goal.returns-in_err-images-clause-err
+returns-in_err-images-clause-err g c =
+    unread_told c.args.line.now c.loading_of-loading.result (how.Open (trailers_of c.args.line.now))
+    (subst (λ t. IsLoadingOf c.args.line.now (how.Open t) c.loading_of-loading.result) c.trailers_of.ensures c.loading_of-loading.ensures)
+    (λ read. read) _ _ c.in_err-images.field-0.0 c.from_residual.result (omega (arith, c.as_slice-paths.ensures.len)) c.as_slice.ensures.value
+    c.in_err-images.ensures.err c.from_residual.ensures.1
