@@ -274,7 +274,7 @@ struct Long {
     trailer: [u8; 48],
 }
 
-fn long(size: u64, full: u32) -> Long {
+fn long_file(size: u64, full: u32) -> Long {
     let mut front = *b"-rom1fs-\0\0\0\0\0\0\0\0v\0\0\0\0\0\0\0\0\0\0\0\0\0\0\0\
         \0\0\0\x09\0\0\0\x20\0\0\0\0\0\0\0\0.\0\0\0\0\0\0\0\0\0\0\0\0\0\0\0";
     front[8..12].copy_from_slice(&full.to_be_bytes());
@@ -328,8 +328,8 @@ fn kept_len<A: Allocator + Copy>(alloc: A, source: &Long) -> Result<usize, Gathe
 
 #[test]
 fn a_trailer_that_ends_too_far_is_told(rt: HostRuntime) {
-    let far = kept_len(rt.alloc(), &long(1 << 32, 0xffff_ffd0));
+    let far = kept_len(rt.alloc(), &long_file(1 << 32, 0xffff_ffd0));
     assert_eq!(rt; far, Err(GatherFault::Far));
-    let near = kept_len(rt.alloc(), &long(1 << 32, 0xffff_ffc0));
+    let near = kept_len(rt.alloc(), &long_file(1 << 32, 0xffff_ffc0));
     assert_eq!(rt; near, Ok(0xffff_fff0));
 }
