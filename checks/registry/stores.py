@@ -1,4 +1,5 @@
 """Checks of convert and of a store, which need no other program."""
+import fcntl
 import gzip
 import io
 import json
@@ -10,11 +11,12 @@ import signal
 import stat
 import subprocess
 import tarfile
+import time
 
 from checks import ROOT
 from checks.plain import plain
 from checks.registry import made
-from checks.registry.rooms import LAYERS, LeftOut, hold, shown_by
+from checks.registry.rooms import LAYERS, SECONDS, LeftOut, hold, needs, shown_by
 from checks.shared.pulled import pulled_line
 
 # the annotation of a layer that says the fs-verity digest of its image
@@ -207,6 +209,44 @@ def check_pull(room):
                                      mounted_layers(room, "other:latest", store)})
     hold("a name of its own", pulled_line(os.path.basename(plain) + ":1", 5, 5),
          room.layers("pull", "oci:" + plain))
+
+
+def check_pull_on_btrfs(room):
+    """On btrfs an open folder lists only what it held when it was opened. A store there has what comes later."""
+    needs("mkfs.btrfs")
+    if os.geteuid() != 0:
+        raise LeftOut("only root mounts a file system")
+    disk, at = room.name(), room.name()
+    with open(disk, "wb") as out:
+        out.truncate(128 << 20)
+    room.ran("mkfs.btrfs", "-q", disk)
+    os.mkdir(at)
+    done = room.run("mount", "-o", "loop", disk, at)
+    if done.returncode != 0:
+        raise LeftOut("no btrfs is mounted here: %s" % done.stderr.strip())
+    room.ends.append(lambda: room.run("umount", at))
+    source, store = made.layout(room.name()), os.path.join(at, "store")
+    hold("printed", pulled_line("a:1", 5, 5), room.layers("pull", "oci:" + source.path, "a:1", store=store))
+    hold("printed again", pulled_line("b:1", 5, 0), room.layers("pull", "oci:" + source.path, "b:1", store=store))
+    room.layers("remove", "a:1", store=store)
+    hold("pruned", True, room.layers("prune", store=store).startswith("0 layers removed"))
+    hold("verified", "", room.layers("verify", store=store))
+    hold_pruned_behind_a_pull(room, store, source)
+
+
+def hold_pruned_behind_a_pull(room, store, source):
+    """A prune that waits for a pull sees the image that came."""
+    room.layers("remove", "b:1", store=store)
+    with open(os.path.join(store, "lock"), "wb") as lock:
+        fcntl.flock(lock, fcntl.LOCK_EX)
+        runs = []
+        for words in (room.words("pull", "oci:" + source.path, "c:1", store=store), room.words("prune", store=store)):
+            runs.append(subprocess.Popen(words, stdin=subprocess.DEVNULL, stdout=subprocess.DEVNULL,
+                                         stderr=subprocess.DEVNULL, env=room.environment))
+            time.sleep(1)
+    hold("statuses", [0, 0], [it.wait(SECONDS) for it in runs])
+    hold("verified behind", "", room.layers("verify", store=store))
+    hold("images", ["c:1"], [it.split()[0] for it in room.layers("images", store=store).splitlines()])
 
 
 def check_missing(room):
@@ -454,5 +494,5 @@ def check_version(room):
     hold("version", "strata-layers %s\n" % version, room.ran("python3", "-B", LAYERS, "--version"))
 
 
-CHECKS = [check_convert, check_compress, check_archives, check_platforms, check_pull, check_missing, check_shared, check_rows_of_the_layers_below, check_names,
+CHECKS = [check_convert, check_compress, check_archives, check_platforms, check_pull, check_pull_on_btrfs, check_missing, check_shared, check_rows_of_the_layers_below, check_names,
           check_hints, check_config, check_lost, check_other_forms, check_examples_of_the_page, check_version]

@@ -33,6 +33,15 @@ def make_folder(name, above=None):
     return open_folder(name, above)
 
 
+def names_in(folder):
+    """The names that an open folder holds now: btrfs lists only what it held when it was opened."""
+    number = open_folder(".", folder)
+    try:
+        return os.listdir(number)
+    finally:
+        os.close(number)
+
+
 # --- new files ---
 
 class new_file:

@@ -122,8 +122,8 @@ class Part:
         self.nodes += 1
 
     def too_large(self, path):
-        return ("%s: the image would be larger than %d bytes with its attributes; strata-layers convert"
-                " splits large layers of container images"
+        return ("%s: the image would be larger than %d bytes with its attributes; a directory can be"
+                " several images, and strata-layers convert splits layers"
                 % (path_text(path), self.most))
 
     # --- headers, and data behind them ---

@@ -13,7 +13,7 @@ import os
 import re
 import stat
 
-from strata_format.files import copy_front, new_file, open_folder, write_all
+from strata_format.files import copy_front, names_in, new_file, open_folder, write_all
 from strata_format.refused import Refused, shown
 from strata_layers.layouts import REFERENCE, Layout, has_type, parsed, split_at_folder
 
@@ -84,10 +84,10 @@ class LayoutWriter:
     def begin(self):
         """Removes what an interrupted run has left, and sees that the folder is a layout or
         empty."""
-        for name in os.listdir(self.root):
+        for name in names_in(self.root):
             if name.startswith(NEW):
                 os.unlink(name, dir_fd=self.root)
-        if os.listdir(self.root):
+        if names_in(self.root):
             Layout(self.folder)
         else:
             self.write(self.root, LAYOUT_FILE, json_bytes(LAYOUT))

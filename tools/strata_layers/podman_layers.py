@@ -14,7 +14,7 @@ import os
 import re
 
 from strata_format import romfs
-from strata_format.files import new_file, open_folder, write_all
+from strata_format.files import names_in, new_file, open_folder, write_all
 from strata_format.image import Image
 from strata_format.read_romfs import ReadImage
 from strata_format.refused import Refused
@@ -97,7 +97,7 @@ class Layer:
 def blobs_by_layers(store):
     """The digests of blobs by what they unpack to and the image that was made of them."""
     found = {}
-    for name in os.listdir(store.records):
+    for name in names_in(store.records):
         blob = RECORD.fullmatch(name)
         value = store.small_json(store.records, name) if blob else None
         layers = value.get("layers") if value is not None else None

@@ -18,7 +18,7 @@ import os
 import stat
 
 from strata_format import ends
-from strata_format.files import READING, data_parts, make_folder, new_file, open_folder, write_all
+from strata_format.files import READING, data_parts, make_folder, names_in, new_file, open_folder, write_all
 from strata_format.json_text import value_of
 from strata_format.progress import unheard
 from strata_format.refused import Refused, faults_below, shown
@@ -179,7 +179,7 @@ class Store:
         if make:
             fcntl.flock(self.root, fcntl.LOCK_EX)
         found = self.small_file(self.root, MARK)
-        if found is None and make and not os.listdir(self.root):
+        if found is None and make and not names_in(self.root):
             flags = os.O_WRONLY | os.O_CREAT | os.O_EXCL | os.O_CLOEXEC
             number = os.open(MARK, flags, 0o644, dir_fd=self.root)
             os.write(number, MARK_TEXT)
@@ -189,7 +189,7 @@ class Store:
             fcntl.flock(self.root, fcntl.LOCK_UN)
         # a run that was killed may have left an empty mark
         if found not in (MARK_TEXT, b""):
-            raise Refused(NO_STORE % self.name) if os.listdir(self.root) else self.none_yet()
+            raise Refused(NO_STORE % self.name) if names_in(self.root) else self.none_yet()
 
     def locked(self):
         """Waits until no other run writes; then removes what an interrupted one has left."""
@@ -197,7 +197,7 @@ class Store:
 
     def clear(self):
         import shutil
-        for name in os.listdir(self.new):
+        for name in names_in(self.new):
             if stat.S_ISDIR(os.stat(name, dir_fd=self.new, follow_symlinks=False).st_mode):
                 shutil.rmtree("/proc/self/fd/%d/%s" % (self.new, name), ignore_errors=True)
             else:
@@ -297,5 +297,5 @@ class Store:
     def layers(self, ending=""):
         """The digits of all layers, in order; with the ending DAMAGED, of those set aside, and with
         TREE of those that have a tree."""
-        names = (it[:len(it) - len(ending)] for it in os.listdir(self.blobs) if it.endswith(ending))
+        names = (it[:len(it) - len(ending)] for it in names_in(self.blobs) if it.endswith(ending))
         return sorted(filter(are_digits, names))

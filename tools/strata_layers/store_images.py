@@ -2,6 +2,7 @@
 import fcntl
 import os
 
+from strata_format.files import names_in
 from strata_format.json_text import value_of
 from strata_format.progress import Progress
 from strata_format.records import record
@@ -76,7 +77,7 @@ def file_name(name, tag):
 
 def names(store):
     """The names of all images, as NAME:TAG, in order."""
-    found = [it.replace("%", "/") for it in os.listdir(store.images)]
+    found = [it.replace("%", "/") for it in names_in(store.images)]
     return sorted(it for it in found if ":" in it)
 
 

@@ -3,6 +3,7 @@ import errno
 import fcntl
 import os
 
+from strata_format.files import names_in
 from strata_format.progress import Progress
 from strata_format.refused import Refused, shown
 from strata_layers.store import DAMAGED, TREE, pieces_of
@@ -129,7 +130,7 @@ def taken_away(store, name):
 def forget(store):
     """Removes the records of layers that are gone."""
     there = {"sha256:" + it for it in store.layers()}
-    for name in os.listdir(store.records):
+    for name in names_in(store.records):
         value = store.small_json(store.records, name)
         # of how a layer was packed the name says the layer, of what was made of a blob the record
         digests = [name.partition(".")[0].replace("-", ":")] if "." in name else digests_in(value)

@@ -14,6 +14,7 @@ import os
 import stat
 
 from strata_format import ends
+from strata_format.files import names_in
 from strata_mount import dead_mounts, mounting
 from strata_mount.device import flags_of, take_away
 from strata_mount.mount_table import KIND, mount_at, mounts
@@ -70,7 +71,7 @@ def noted_servers():
     except OSError:
         return {}
     found = {}
-    for name in filter(is_name, os.listdir(folder)):
+    for name in filter(is_name, names_in(folder)):
         try:
             number = os.open(name, os.O_RDONLY | os.O_NOFOLLOW | os.O_CLOEXEC, dir_fd=folder)
             with open(number, encoding="utf-8", errors="replace") as lines:
@@ -124,7 +125,7 @@ class Note:
 
 def sweep(folder):
     """Removes notes of mounts that are all gone, with the folders that were printed for them."""
-    for name in filter(is_name, os.listdir(folder)):
+    for name in filter(is_name, names_in(folder)):
         try:
             note = Note(folder, name, is_waited_for=False)
         except OSError:

@@ -2,6 +2,7 @@
 import os
 import threading
 
+from strata_format.files import names_in
 from strata_format.refused import Refused
 from strata_layers.store import Store
 from strata_layers.store_images import image_in, names
@@ -49,8 +50,9 @@ class StoreLayers:
         if self.store is None or not os.path.samestat(here, os.fstat(self.store.root)):
             self.store, self.seen = Store(self.place), None
         self.store.hold_own()
-        seen = sorted((it.name, it.inode(), it.stat(follow_symlinks=False).st_mtime_ns)
-                      for it in os.scandir(self.store.images))
+        images = self.store.images
+        seen = sorted((name, it.st_ino, it.st_mtime_ns) for name in names_in(images)
+                      for it in [os.stat(name, dir_fd=images, follow_symlinks=False)])
         if seen != self.seen:
             self.found = {chain: layer for name in names(self.store)
                           for chain, layer in chains_of(self.store, name)}
