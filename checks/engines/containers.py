@@ -194,10 +194,18 @@ def check_one_mount(machine):
     machine.forget(image)
 
 
+DIALS = 5
+
+
 def looked_for(machine, name, text, path):
     """A command in a container that looks for a text in a file."""
-    number = "e%d" % time.monotonic_ns()
-    return machine.tried("task", "exec", "--exec-id", number, name, "grep", "-q", text, path)
+    words = "task", "exec", "--exec-id", "e%d" % time.monotonic_ns(), name, "grep", "-q", text, path
+    done = machine.tried(*words)
+    for _ in range(DIALS):
+        # on a very busy machine ctr gives up before containerd takes its connection
+        if "failed to dial" in done.stderr:
+            done = machine.tried(*words)
+    return done
 
 
 def reads(machine, name, path, text):
