@@ -1,6 +1,8 @@
 """Checks with containerd and runc: what containers see, many at once, and daemons that are
 killed."""
+import contextlib
 import errno
+import hashlib
 import json
 import os
 import random
@@ -8,6 +10,8 @@ import signal
 import subprocess
 import threading
 import time
+
+import grpc
 
 from checks.engines import cri, images
 from checks.engines.faults import restart_keeping
@@ -62,7 +66,7 @@ def check_the_same_trees(machine):
         found = {}
         for snapshotter in ("strata", "overlayfs"):
             machine.bring(archive, snapshotter)
-            process = machine.begin("c-" + snapshotter, image, "sleep", "1000",
+            process = machine.begin("c-" + snapshotter, image, "sleep", "1000000",
                                     snapshotter=snapshotter)
             found[snapshotter] = seen(process)
             machine.end("c-" + snapshotter)
@@ -119,7 +123,7 @@ def check_images_as_layers(machine):
     machine.bring(archive, "overlayfs")
     found = []
     for name, which, snapshotter in (("g", given, "strata"), ("p", image, "overlayfs")):
-        found.append(seen(machine.begin(name, which, "sleep", "1000", snapshotter=snapshotter)))
+        found.append(seen(machine.begin(name, which, "sleep", "1000000", snapshotter=snapshotter)))
         machine.end(name)
     hold_same(found[1], found[0])
     runtime = cri.Runtime(machine.at("c.sock"))
@@ -138,7 +142,7 @@ def check_images_as_layers(machine):
 
 # what a container writes of what it sees; what ctr prints may lack the end
 WRITING = ("{ sha256sum < /usr/large; cat /etc/issue; ls /etc /opt/o; echo %s; } > /etc/own; "
-           "echo > /etc/done; sleep 1000")
+           "echo > /etc/done; sleep 1000000")
 
 
 def written(machine, name, image):
@@ -153,7 +157,8 @@ def written(machine, name, image):
 
 
 def check_many_at_once(machine):
-    """Fifty containers at once on one mount: each sees the image and its own changes alone."""
+    """Eight and fifty containers at once on one mount: each sees the image and its own changes
+    alone."""
     image, archive = image_of(machine, images.PLAIN)
     machine.bring(archive)
     first, said = written(machine, "first", image), {}
@@ -161,14 +166,15 @@ def check_many_at_once(machine):
     def one(name):
         said[name] = written(machine, name, image)
 
-    names = ["m%d" % number for number in range(50)]
-    threads = [threading.Thread(target=one, args=(name,)) for name in names]
-    for it in threads:
-        it.start()
-    for it in threads:
-        it.join()
-    for name in names:
-        hold(name, [name if it == "first" else it for it in first], said.get(name))
+    for count in (8, 50):
+        names = ["m%d" % number for number in range(count)]
+        threads = [threading.Thread(target=one, args=(name,)) for name in names]
+        for it in threads:
+            it.start()
+        for it in threads:
+            it.join()
+        for name in names:
+            hold(name, [name if it == "first" else it for it in first], said.pop(name, None))
     wait_until("no server", lambda: not machine.snapshotter.servers())
     machine.forget(image)
 
@@ -178,7 +184,7 @@ def check_one_mount(machine):
     image, archive = image_of(machine, images.PLAIN)
     machine.bring(archive)
     for name in ("a", "b", "c"):
-        machine.begin(name, image, "sleep", "1000")
+        machine.begin(name, image, "sleep", "1000000")
     hold("servers", 1, len(machine.snapshotter.servers()))
     for name in ("a", "b"):
         machine.end(name)
@@ -188,21 +194,43 @@ def check_one_mount(machine):
     machine.forget(image)
 
 
+DIALS = 5
+
+
+def looked_for(machine, name, text, path):
+    """A command in a container that looks for a text in a file."""
+    words = "task", "exec", "--exec-id", "e%d" % time.monotonic_ns(), name, "grep", "-q", text, path
+    done = machine.tried(*words)
+    for _ in range(DIALS):
+        # on a very busy machine ctr gives up before containerd takes its connection
+        if "failed to dial" in done.stderr:
+            done = machine.tried(*words)
+    return done
+
+
 def reads(machine, name, path, text):
     """Whether a command in a container reads this text in a file."""
-    number = "e%d" % time.monotonic_ns()
-    done = machine.tried("task", "exec", "--exec-id", number, name, "grep", "-q", text, path)
-    return done.returncode == 0
+    return looked_for(machine, name, text, path).returncode == 0
+
+
+# what a container that goes on finds in the image's files and its own
+FOUND = (("^below$", "/etc/issue"), ("^own$", "/etc/own"))
 
 
 def works(machine, name):
     """Whether a container reads the image's files and its own."""
-    return reads(machine, name, "/etc/issue", "^below$") and reads(machine, name, "/etc/own",
-                                                                   "^own$")
+    return all(reads(machine, name, path, text) for text, path in FOUND)
+
+
+def hold_works(machine, name):
+    """The same, or what the command says that does not."""
+    for words in FOUND:
+        done = looked_for(machine, name, *words)
+        hold("%s finds %s in %s" % (name, *words), (0, ""), (done.returncode, done.stderr[-400:]))
 
 
 def begin_writing(machine, name, image):
-    machine.begin(name, image, "sh", "-c", "echo own > /etc/own; sleep 1000")
+    machine.begin(name, image, "sh", "-c", "echo own > /etc/own; sleep 1000000")
     wait_until("the container runs", lambda: works(machine, name))
 
 
@@ -219,13 +247,13 @@ def check_daemons_killed(machine):
     machine.bring(archive)
     begin_writing(machine, "long", image)
     machine.snapshotter.stop(signal.SIGKILL)
-    hold("without the snapshotter", True, works(machine, "long"))
+    hold_works(machine, "long")
     machine.snapshotter.start()
     wait_until("a new container", lambda: runs(machine, image))
     wait_until("one server", lambda: len(machine.snapshotter.servers()) == 1)
     machine.kill("containerd")
     machine.start_containerd()
-    hold("after containerd", True, works(machine, "long"))
+    hold_works(machine, "long")
     machine.end("long")
     remove_containers(machine)
     machine.forget(image)
@@ -284,52 +312,107 @@ def kill_containerd(machine, _):
 
 def kill_server(machine, spared):
     for it in set(machine.snapshotter.servers()) - spared:
-        os.kill(it, signal.SIGKILL)
+        # it may have ended by itself
+        with contextlib.suppress(ProcessLookupError):
+            os.kill(it, signal.SIGKILL)
 
 
 KILLS = (kill_snapshotter, kill_snapshotter, kill_containerd, kill_server)
 
 
+# the namespace of CRI, as ctr's words say it
+CRI = ("-n", "k8s.io")
+
+
 def remove_containers(machine):
-    for name in machine.ctr("container", "ls", "-q").split():
-        machine.tried("task", "rm", "-f", name)
-        machine.ctr("container", "rm", name)
-    # a client of a containerd that was killed keeps what it was about to make for a day
-    for lease in machine.ctr("leases", "ls", "-q").split():
-        machine.ctr("leases", "rm", "--sync", lease)
+    for space in ((), CRI):
+        for name in machine.ctr(*space, "container", "ls", "-q").split():
+            machine.tried(*space, "task", "rm", "-f", name)
+            machine.ctr(*space, "container", "rm", name)
+        # a client of a containerd that was killed keeps what it was about to make for a day
+        for lease in machine.ctr(*space, "leases", "ls", "-q").split():
+            machine.ctr(*space, "leases", "rm", "--sync", lease)
+
+
+# what a container prints of its tree up to what it can't read, and its last line
+PRINTING = "set -e; cat /etc/issue; ls /etc; ls /opt/o; ls /kind; sha256sum < /usr/large"
+SUM = hashlib.sha256(images.large(1 << 20)).hexdigest() + "  -\n"
+
+
+def brought(machine, image, archive):
+    """Imports an image, runs a container on it, and removes it again; the lines that the container
+    printed, as far as it came."""
+    machine.tried("images", "import", "--snapshotter", "strata", archive)
+    found = printed(machine, image)
+    machine.tried("images", "rm", "--sync", image)
+    return found
+
+
+def pulled(machine, image):
+    """The same of an image that CRI pulls."""
+    runtime = cri.Runtime(machine.at("c.sock"))
+    with contextlib.suppress(grpc.RpcError):
+        runtime.pull(image)
+    found = printed(machine, image, *CRI)
+    with contextlib.suppress(grpc.RpcError):
+        runtime.remove_image(image)
+    return found
+
+
+def printed(machine, image, *space):
+    name = "k%d" % time.monotonic_ns()
+    done = machine.tried(*space, "run", "--rm", "--snapshotter", "strata", image, name, "sh", "-c",
+                         PRINTING)
+    return done.stdout.splitlines(True)
+
+
+def hold_printed(wanted, found):
+    """Holds that a container that may have been killed has printed no other tree's lines."""
+    if found and not found[-1].endswith("\n"):
+        wanted = [*wanted[:len(found) - 1], wanted[len(found) - 1][:len(found[-1])]]
+    hold("what a container printed", wanted[:len(found)], found)
 
 
 def check_random_kills(machine, count=8):
-    """The snapshotter, containerd and servers are killed at random moments of imports, containers
-    and removals: a container goes on meanwhile, afterwards all works, and nothing is left."""
+    """The snapshotter, containerd and servers are killed at random moments of imports, pulls,
+    containers and removals: a container goes on meanwhile, none sees another tree, afterwards all
+    works, and nothing is left."""
     (kept, other), (image, archive) = (image_of(machine, it) for it in (images.ODD, images.PLAIN))
+    remote = HOST + "/killed:1"
+    images.push(machine.at(images.PLAIN), HOST, "killed:1")
     machine.bring(other)
     begin_writing(machine, "kept", kept)
+    wanted = []
+    # what ctr prints may lack the end
+    while wanted[-1:] != [SUM]:
+        wanted = brought(machine, image, archive)
     spared, draw = set(machine.snapshotter.servers()), random.Random(94)
     for number in range(count):
-        work = threading.Thread(target=lambda: [
-            machine.tried("images", "import", "--snapshotter", "strata", archive),
-            machine.tried("run", "--rm", "--snapshotter", "strata", image, "k%d" % number, "true"),
-            machine.tried("images", "rm", "--sync", image)])
+        found = []
+        work = threading.Thread(target=lambda: found.extend(
+            pulled(machine, remote) if number % 2 else brought(machine, image, archive)))
         work.start()
         time.sleep(draw.random() * 1.5)
         draw.choice(KILLS)(machine, spared)
         work.join()
-        hold("the container that stays", True, works(machine, "kept"))
+        hold_works(machine, "kept")
+        hold_printed(wanted, found)
     # containerd waits for a while before it connects again
     wait_until("an import", lambda: machine.tried("images", "import", "--snapshotter", "strata",
                                                   archive).returncode == 0)
     machine.run("last", image, "grep", "-q", "^below$", "/etc/issue")
     machine.end("kept")
     remove_containers(machine)
+    cri.Runtime(machine.at("c.sock")).remove_image(remote)
     machine.forget(image, kept)
     wait_until("no server", lambda: not machine.snapshotter.servers())
 
 
 def check_hundreds_of_kills(machine):
-    """The same at length, over mounts that are made ahead and kept for a while."""
+    """The same at length, over mounts that are made ahead and kept for a while. STRATA_KILLS says
+    how many."""
     restart_keeping(machine.snapshotter, "2")
-    check_random_kills(machine, 300)
+    check_random_kills(machine, int(os.environ.get("STRATA_KILLS", "300")))
     restart_keeping(machine.snapshotter, "0")
 
 

@@ -7,6 +7,7 @@ All runs in namespaces of its own, which end with it. It needs root, and Debian'
 containerd, runc, docker-registry, skopeo, busybox-static, python3-grpcio and python3-protobuf.
 """
 import os
+import secrets
 import shutil
 import subprocess
 import sys
@@ -14,6 +15,7 @@ import tempfile
 import time
 
 from checks.engines import stargz
+from checks.engines.groups import remove_group
 from checks.engines.machine import PROGRAMS, Machine, begin_loopback
 from checks.engines.snapshotters import python_with_grpc
 from checks.shared.mounting import Failed, LeftOut
@@ -34,7 +36,9 @@ def missing():
 def go_inside(words):
     """Runs all in new namespaces and in a new folder; whether all is right."""
     checks = os.path.dirname(os.path.dirname(os.path.abspath(__file__)))
-    folder = tempfile.mkdtemp(prefix="engines-")
+    # containerd takes few names for a namespace, and none as mkdtemp may make
+    folder = os.path.join(tempfile.gettempdir(), "engines-" + secrets.token_hex(8))
+    os.mkdir(folder, 0o700)
     try:
         words = [*NAMESPACES, "--", python_with_grpc(), "-B", checks, "engines", *words]
         done = subprocess.run(words, env={**os.environ, INSIDE: folder}, check=False)
@@ -42,6 +46,7 @@ def go_inside(words):
     finally:
         # with the namespaces the mounts in it have ended
         shutil.rmtree(folder)
+        remove_group(folder)
 
 
 def run(checks, machine):
@@ -59,6 +64,7 @@ def run(checks, machine):
             failed += 1
         print("engines: %s: %s (%.1f s)" % (name, said, time.monotonic() - begin), flush=True)
         if failed:
+            print(machine.last_lines(), flush=True)
             break
     return failed
 

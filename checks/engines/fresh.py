@@ -17,8 +17,9 @@ import tempfile
 from checks import ROOT
 from checks.engines import images
 from checks.registry import made
+from checks.shared.mounting import SLOWER
 
-SECONDS = 600
+SECONDS = 600 * SLOWER
 PAGE, OTHERS = ROOT + "/docs/CONTAINERD.md", ROOT + "/docs/ENGINES.md"
 BLOCK = re.compile(r"^## ([^\n]+)\n(.*?)(?=^## |\Z)", re.M | re.S)
 CODE = re.compile(r"^```(sh|toml)\n(.*?)^```", re.M | re.S)
@@ -47,7 +48,7 @@ for it in /sys/fs/cgroup/*/; do mount -o remount,rw,bind "$it" || true; done
 MORE = """
 set -e
 ctr snapshots --snapshotter strata ls
-ctr run -d --snapshotter strata %(image)s long sh -c 'echo own > /etc/own; sleep 1000'
+ctr run -d --snapshotter strata %(image)s long sh -c 'echo own > /etc/own; sleep 1000000'
 works() { ctr task exec --exec-id "$1" long sh -c 'grep below /etc/issue && grep own /etc/own'; }
 nothing() { if "$@" | grep .; then return 1; fi; }
 sleep 1

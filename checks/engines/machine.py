@@ -1,6 +1,7 @@
 """A machine of a check's own: containerd, a registry and the snapshotter, in namespaces that end
 with
 it."""
+import collections
 import fcntl
 import os
 import signal
@@ -11,7 +12,7 @@ import time
 
 from checks.engines.snapshotters import Snapshotter
 from checks.registry.loopback import CONFIGURATION
-from checks.shared.mounting import Failed
+from checks.shared.mounting import SLOWER, Failed
 
 PROGRAMS = ("containerd", "ctr", "runc", "docker-registry", "skopeo", "busybox", "unshare")
 CONTAINERD = """
@@ -36,7 +37,9 @@ state = "{at}/state"
     address = "{at}/z.sock"
 """
 HOST = "127.0.0.1:5000"
-SECONDS = 60
+SECONDS = 60 * SLOWER
+# so many last lines of a log are printed
+LINES = 40
 SIOCSIFFLAGS, IFF_UP, IFF_RUNNING = 0x8914, 0x1, 0x40
 
 
@@ -54,11 +57,19 @@ def wait_until(what, test, seconds=SECONDS):
         time.sleep(0.02)
 
 
+def registry_answers():
+    host, _, port = HOST.partition(":")
+    with socket.socket() as it:
+        return it.connect_ex((host, int(port))) == 0
+
+
 class Machine:
     """A folder, and the daemons that run over it."""
 
     def __init__(self, program, folder):
         self.folder, self.daemons = folder, {}
+        # control groups of containers are named by it, and so two machines at once share none
+        os.environ["CONTAINERD_NAMESPACE"] = os.path.basename(folder)
         self.snapshotter = Snapshotter(program, folder, "--debug")
         self.snapshotter.words[self.snapshotter.words.index("--content") + 1] = \
             self.at("containerd/io.containerd.content.v1.content")
@@ -80,6 +91,7 @@ class Machine:
 
     def start_registry(self):
         self.daemon("registry", "docker-registry", "serve", self.at("registry.yml"))
+        wait_until("the registry answers", registry_answers)
 
     def start_containerd(self):
         self.daemon("containerd", "containerd", "-c", self.at("containerd.toml"))
@@ -99,6 +111,14 @@ class Machine:
     def kill(self, name, number=signal.SIGKILL):
         self.daemons[name].send_signal(number)
         self.daemons[name].wait()
+
+    def last_lines(self):
+        """The last lines that the daemons and the snapshotter have logged."""
+        found = []
+        for path in (self.at("containerd.log"), self.snapshotter.log):
+            with open(path, encoding="utf-8", errors="replace") as lines:
+                found += [path + ":\n", *collections.deque(lines, LINES)]
+        return "".join(found)
 
     # --- ctr ---
 

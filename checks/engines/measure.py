@@ -1,11 +1,13 @@
 """Measures the snapshotter beside others: python3 checks engines PROGRAM --measure [STARGZ]
 
 It prints the table of docs/ENGINES.md. The image is Python of this machine, in four layers. What is
-compared runs by turns; each figure is the median of three rounds. STARGZ is a folder for stargz's
+compared runs by turns; each figure is a median of three rounds. Beside times stand those of
+processors, of all but the containers' own processes. STARGZ is a folder for stargz's
 snapshotter, which is built there if it isn't yet (checks/engines/stargz).
 """
 import os
 import re
+import shutil
 import statistics
 import subprocess
 import sys
@@ -15,6 +17,7 @@ import time
 
 from checks import ROOT
 from checks.engines import cri, images
+from checks.engines.groups import enter_group, processor_time
 from checks.engines.layers import run_layers
 from checks.engines.machine import HOST, wait_until
 from checks.engines.snapshotters import KEEP
@@ -24,7 +27,9 @@ IMAGE = "docker.io/test/python:1"
 # what is put into each layer over busybox's
 LAYERS = (("usr/lib/python3.11", "usr/bin/python3.11"), ("usr/lib/python3",),
           ("usr/share/perl", "usr/lib/git-core"))
-ROUNDS, TURNS = 5, 3
+ROUNDS, TURNS, STARTS = 5, 3, 10
+PULLED = "a pull by CRI"
+STORED = "a pull with the layers in strata's store"
 CODE = "import json, email, http.client, xml.dom.minidom, asyncio; print('ok')"
 
 
@@ -61,15 +66,13 @@ def timed(function, *words, **more):
     return time.monotonic() - begin
 
 
-def at_once(machine, count, its):
-    """The time until so many containers have run."""
+def at_once(count, its):
+    """Runs so many containers at once."""
     threads = [threading.Thread(target=its.run, args=("m%d" % number,)) for number in range(count)]
-    begin = time.monotonic()
     for it in threads:
         it.start()
     for it in threads:
         it.join()
-    return time.monotonic() - begin
 
 
 def resident(process):
@@ -152,27 +155,64 @@ class Stargz(Compared):
 
 # --- figures ---
 
-def figures(machine, its):
-    found = {"`ctr images import`, s": timed(its.bring)}
-    found["first container after it, s"] = timed(its.run, "first")
-    machine.begin("stay", its.image, "sleep", "1000", snapshotter=its.name)
-    starts = [timed(its.run, "s%d" % number) for number in range(10)]
-    found["a container that runs `true`, s"] = statistics.median(starts)
-    found["ten at once, s"] = at_once(machine, 10, its)
-    found["fifty at once, s"] = at_once(machine, 50, its)
-    for name, words in (("`find /usr` in a container", ("find", "/usr")),
+class Figures:
+    """Figures by their titles and by snapshotters, each of several rounds."""
+
+    def __init__(self):
+        self.found = {}
+
+    def add(self, title, its, figure):
+        self.found.setdefault(title, {}).setdefault(its.name, []).append(figure)
+
+    def add_time(self, title, its, function, *words):
+        """Adds the time of a call, and the processor time of all that it lets do."""
+        before = processor_time(its.machine.folder)
+        self.add(title + ", s", its, timed(function, *words))
+        if before is not None:
+            self.add(title + ", processor, s", its, processor_time(its.machine.folder) - before)
+
+    def print(self, names):
+        """A row of the table for each title; its last cell says how strata's figure is to that of
+        overlayfs."""
+        for title, cells in self.found.items():
+            values = [statistics.median(cells[it]) if it in cells else None for it in names]
+            of = dict(zip(names, values))
+            ratio = of["strata"] / of["overlayfs"] if of["overlayfs"] else None
+            print("| %s |" % " | ".join([title, *map(rounded, values), rounded(ratio)]), flush=True)
+
+
+def add_imports(figures, machine, compared):
+    """An import, and the first container after it."""
+    for its in compared:
+        figures.add_time("an import", its, its.bring)
+        figures.add_time("first container after an import", its, its.run, "first")
+        machine.ctr("images", "rm", "--sync", its.image)
+
+
+def add_containers(figures, machine, compared):
+    """Containers on an image, those of each snapshotter by turns."""
+    for its in compared:
+        its.bring()
+        its.run("first")
+        machine.begin("stay-" + its.name, its.image, "sleep", "1000000", snapshotter=its.name)
+    for number in range(STARTS):
+        for its in compared:
+            figures.add_time("next container", its, its.run, "s%d" % number)
+    for count, title in ((10, "ten at once"), (50, "fifty at once")):
+        for its in compared:
+            figures.add_time(title, its, at_once, count, its)
+    for name, words in (("`find /usr`", ("find", "/usr")),
                         ("Python with five modules", ("/usr/bin/python3.11", "-c", CODE))):
-        runs = []
         for number in range(ROUNDS):
-            runs.append(timed(machine.ctr, "task", "exec", "--exec-id", "x%d" % number, "stay",
-                              *words))
-        found["%s, first, s" % name] = runs[0]
-        found["the same again, s" + " " * (words[0] == "find")] = statistics.median(runs[1:])
-    found["memory that stays, MiB"] = its.memory()
-    found["disk, MiB"] = disk(its.root())
-    machine.end("stay")
-    machine.ctr("images", "rm", "--sync", its.image)
-    return found
+            for its in compared:
+                title = name + (", again" if number else ", first")
+                figures.add_time(title, its, machine.ctr, "task", "exec", "--exec-id",
+                                 "x%d" % number, "stay-" + its.name, *words)
+    for its in compared:
+        figures.add("memory of the service and its mounts, MiB", its, its.memory())
+        figures.add("disk, MiB", its, disk(its.root()))
+        machine.end("stay-" + its.name)
+    machine.ctr("images", "rm", "--sync", *{its.image for its in compared})
 
 
 def use(machine, snapshotter):
@@ -186,37 +226,30 @@ def use(machine, snapshotter):
     machine.start_containerd()
 
 
-def pull(machine, its):
-    """The time of a pull by CRI; the image is removed again, with all that was made of it."""
+def pull(figures, title, machine, its):
+    """A pull by CRI, and the first container after it; the image is removed again, with all that
+    was made of it."""
     runtime = cri.Runtime(machine.at("c.sock"))
-    found = timed(runtime.pull, its.reference)
+    figures.add_time(title, its, runtime.pull, its.reference)
+    figures.add_time("first container after " + title, its, machine.ctr, "-n", "k8s.io", "run",
+                     "--rm", "--snapshotter", its.name, its.reference, "first", "true")
     runtime.remove_image(its.reference)
     machine.forget()
-    return found
 
 
-def pulls(machine, compared, image):
-    """The times of pulls by CRI, and of those with the layers in the store, by snapshotters."""
-    found = {it.name: [] for it in compared}
-    for _ in range(TURNS):
-        for it in compared:
-            use(machine, it.name)
-            found[it.name].append(pull(machine, it))
-    strata, = (it for it in compared if it.name == Strata.name)
+def add_pulls(figures, machine, compared):
+    for its in compared:
+        use(machine, its.name)
+        pull(figures, PULLED, machine, its)
+
+
+def add_pulls_from_store(figures, machine, strata, image):
+    """Pulls with all layers in the store of strata-layers."""
     use(machine, strata.name)
     run_layers("pull", "--store", machine.at("store"), "oci:%s:1" % image.path, "python:1")
-    ready = [pull(machine, strata) for _ in range(TURNS)]
-    first = {name: statistics.median(it) for name, it in found.items()}
-    return {"pull by CRI, s": first,
-            "the same with the layers in the store, s": {
-                "overlayfs": first["overlayfs"], strata.name: statistics.median(ready)}}
-
-
-def print_row(title, cells, names):
-    """A row of the table; its last cell says how strata's figure is to that of overlayfs."""
-    values = [cells.get(it) for it in names]
-    ratio = cells["strata"] / cells["overlayfs"] if cells.get("overlayfs") else None
-    print("| %s |" % " | ".join([title.strip(), *map(rounded, values), rounded(ratio)]), flush=True)
+    for _ in range(TURNS):
+        pull(figures, STORED, machine, strata)
+    shutil.rmtree(machine.at("store"))
 
 
 def rounded(value):
@@ -235,27 +268,27 @@ def measure(machine, place):
     print("image: %d layers, %d MiB packed" % (len(image.layers),
                                                os.path.getsize(image.archive) >> 20))
     names = [it.name for it in compared]
-    print_head(names)
-    for title, cells in pulls(machine, compared, image).items():
-        print_row(title, cells, names)
-    runs = {it.name: [] for it in compared}
-    for _ in range(TURNS):
-        for it in compared:
-            runs[it.name].append(figures(machine, it))
-    for title in runs["strata"][0]:
-        print_row(title, {name: statistics.median(it[title] for it in found)
-                          for name, found in runs.items()}, names)
-
-
-def print_head(names):
     print("| | %s | strata / overlayfs |" % " | ".join(names))
     print("|%s" % ("---|" * (len(names) + 2)), flush=True)
+    pulls, containers = Figures(), Figures()
+    for _ in range(TURNS):
+        add_pulls(pulls, machine, compared)
+    add_pulls_from_store(pulls, machine, compared[1], image)
+    # the same pull by overlayfs is what the store spares
+    pulls.found[STORED + ", s"]["overlayfs"] = pulls.found[PULLED + ", s"]["overlayfs"]
+    pulls.print(names)
+    for _ in range(TURNS):
+        add_imports(containers, machine, compared)
+        add_containers(containers, machine, compared)
+    containers.print(names)
 
 
 # --- the machine ---
 
 def install(machine):
-    """Lets the machine run the snapshotter as it is installed, with its modules compiled."""
+    """Lets the machine run the snapshotter as it is installed, with its modules compiled, in the
+    control group."""
+    enter_group(machine.folder)
     found, place = machine.snapshotter, machine.at("installed")
     words = [sys.executable, "-B", ROOT + "/packaging/install.py", found.program, "", place, ""]
     subprocess.run(words, check=True, stdin=subprocess.DEVNULL, stdout=subprocess.DEVNULL)

@@ -44,7 +44,7 @@ def hold_a_pod(machine, runtime, image):
     logs = tempfile.mkdtemp(dir=machine.folder)
     pod = runtime.pod("pod", logs)
     container = runtime.container(pod, "c", image,
-                                  ["sh", "-c", "cat /etc/issue; echo own > /etc/own; sleep 1000"])
+                                  ["sh", "-c", "cat /etc/issue; echo own > /etc/own; sleep 1000000"])
     wait_until("the log",
                lambda: os.path.exists(logs + "/c.log") and os.path.getsize(logs + "/c.log"))
     with open(logs + "/c.log", encoding="utf-8") as lines:

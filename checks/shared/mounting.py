@@ -15,7 +15,8 @@ from strata_mount.device import DEVICE
 
 SCRIPT = TOOLS + "/mount.py"
 # a check that does not end is ended after so many seconds; STRATA_SLOWER says how many times as many
-SECONDS = 180 * int(os.environ.get("STRATA_SLOWER", "1"))
+SLOWER = int(os.environ.get("STRATA_SLOWER", "1"))
+SECONDS = 180 * SLOWER
 # how many readers serve a mount for which a check says nothing of that; and the most memory that each but the first takes
 MOUNT_READERS = int(os.environ.get("STRATA_READERS", "1"))
 READER_SIZE = 400 << 10
