@@ -1,16 +1,20 @@
 //! The program `strata`, with the process's own arguments and streams.
 #![tactic(auto)]
 
+ghost use Rattle.std.specs.Prelude.{IfOk};
+ghost use Rattle.strata_words.specs.CommandLine.{IsInLimits, NamesSocket};
+
 mod input;
 
 use input::unfit_input;
-use std::alloc::Allocator;
+use std::alloc::{Allocator, Global};
+use std::convert::AsStr;
 use std::fs;
 use std::fs::Files;
 use std::io::IsTerminal;
 use std::process::ExitCode;
 use strata::{Fault, command_as_read};
-use strata_words::{line, words};
+use strata_words::{Line, NoLine, line, words};
 
 /// Freed blocks of up to this size are kept for later allocations.
 const KEPT: usize = 0x40_0000;
@@ -34,6 +38,16 @@ fn stand_in<R: Files>(rt: &R) -> Option<R::File> {
     fs::open(rt, "/dev/null").ok()
 }
 
+// Reads the arguments. It is no part of `main`, which would hold the room on the stack that this
+// takes for as long as the program runs.
+#[inline(never)]
+fn line_of<'a, S: AsStr>(alloc: Global, words: &'a [S]) -> Result<Line<'a>, NoLine>
+    ensures limits { IfOk result (λ line. IsInLimits line) }
+    ensures socket { IfOk result (λ line. NamesSocket line) }
+{
+    line(alloc, words)
+}
+
 fn main(rt: HostRuntime) -> ExitCode {
     let _held = stand_ins(&rt);
     let alloc = rt.alloc();
@@ -42,7 +56,7 @@ fn main(rt: HostRuntime) -> ExitCode {
     let input = rt.stdin();
     let status = match words(&rt) {
         Ok(words) => {
-            let read = line(alloc, words.as_slice());
+            let read = line_of(alloc, words.as_slice());
             match unfit_input(&rt, alloc, &read, input.is_terminal()) {
                 Some(fault) => fault.end(&mut faults),
                 None => command_as_read(&rt, alloc, read, input, rt.stdout(), &mut faults).status,
