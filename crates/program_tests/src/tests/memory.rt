@@ -3,12 +3,10 @@
 use super::program::{file_path, image_file, status_of};
 use std::alloc::Global;
 use std::fs::{self, Files};
-use std::io;
 use std::net::Net;
 use std::os::unix::fs::FileExt;
 use std::test::Fail;
 use std::thread::Threads;
-use strata::command;
 use test_kit::memories::{Memories, refuse_in_turn};
 use test_kit::messages::{REPLIES, REQUESTS};
 
@@ -83,63 +81,6 @@ fn refused_memory_is_told_of_lines(rt: HostRuntime) -> Result<(), Fail> {
 fn refused_memory_is_told_of_the_version(rt: HostRuntime) -> Result<(), Fail> {
     let told = told_refusals(&rt, rt.alloc(), &["--version"], None);
     assert!(rt; matches!(told, Ok(1..)), "{told:?}");
-    Ok(())
-}
-
-/// How many requests for memory a run between ends without bytes makes, each of which is refused
-/// once and ends it with 5.
-fn refusals_between<R: Files + Net + Threads + Sync>(
-    rt: &R,
-    global: Global,
-    words: &[&str],
-) -> Result<u64, u64>
-where
-    R::File: FileExt + Send + Sync,
-    R::Dir: Send,
-{
-    refuse_in_turn(global, |memories| {
-        let (refusing, mut faults) = (&memories.refusing, io::sink());
-        let (input, output) = (io::empty(), io::sink());
-        let ran = command(
-            rt,
-            refusing,
-            memories.global,
-            words,
-            input,
-            output,
-            &mut faults,
-        );
-        ran.status == if refusing.refused() { 5 } else { 0 }
-    })
-}
-
-/// The same for streams, for a device, and for two readers of one.
-fn refusals_of_ends<R: Files + Net + Threads + Sync>(
-    rt: &R,
-    global: Global,
-    path: &str,
-) -> [Result<u64, u64>; 3]
-where
-    R::File: FileExt + Send + Sync,
-    R::Dir: Send,
-{
-    [
-        refusals_between(rt, global, &["serve", path]),
-        refusals_between(rt, global, &["serve", "--device", path]),
-        refusals_between(rt, global, &["serve", "--device", "--readers", "2", path]),
-    ]
-}
-
-#[test]
-fn refused_memory_ends_a_run_between_all_ends(rt: HostRuntime) -> Result<(), Fail> {
-    let image = image_file(&rt, "ends")?;
-    let refusals = refusals_of_ends(&rt, rt.alloc(), image.as_str());
-    fs::remove_file(&rt, image.as_str())?;
-    drop(image);
-    assert!(rt;
-        matches!(refusals, [Ok(6..), Ok(6..), Ok(6..)]),
-        "{refusals:?}"
-    );
     Ok(())
 }
 

@@ -9,7 +9,7 @@ use std::os::unix::fs::FileExt;
 use std::test::Fail;
 use std::thread::Threads;
 use std::{env, fs, process};
-use strata::{command_as_read, command_on_streams};
+use strata::{command, command_on_streams};
 use test_kit::sample_images::empty;
 
 /// The status of the program over these streams, in memory of `alloc`; none if standard error has
@@ -34,8 +34,9 @@ where
             let (mut input, mut output) = (Tap::new(input), Spout::new(output));
             command_on_streams(rt, alloc, &line, &mut input, &mut output, &mut faults)
         }
-        Err(none) => {
-            command_as_read(rt, alloc, Err(none), io::empty(), io::sink(), &mut faults).status
+        Err(_) => {
+            let (input, output) = (io::empty(), io::sink());
+            command(rt, alloc, global, words, input, output, &mut faults).status
         }
     };
     let told: &[u8] = if status == 0 { &[] } else { line };
