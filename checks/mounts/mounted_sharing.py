@@ -228,7 +228,7 @@ def printed_to_user(room, image):
     os.chmod(runtime, 0o777)
     refused = subprocess.run([*words, "--share", "--print", image], **who)
     hold("a folder in which all may write", 1, refused.returncode)
-    hold("what is said of it", True, "others may write" in refused.stderr)
+    hold("what is said of it", True, "nobody else may write in it" in refused.stderr)
     return "and for an unprivileged user"
 
 
@@ -244,7 +244,7 @@ def strangers(room):
         os.chown("/run/strata", owner, owner)
         os.chmod("/run/strata", mode)
         status, _, told = run(room, "--share", image, room.place())
-        hold("a folder of %d" % owner, (1, True), (status, "others may write" in told))
+        hold("a folder of %d" % owner, (1, True), (status, "nobody else may write in it" in told))
     os.rmdir("/run/strata")
     os.mkdir("/run/elsewhere", 0o700)
     os.symlink("/run/elsewhere", "/run/strata")
