@@ -1,16 +1,15 @@
 """Lies about sealed images: what their files tell instead of their bytes, and when."""
 import errno
-import mmap
-import struct
 from collections import Counter
 
 from checks.plain import plain_verity
 from checks.plain.plain_verity import BLOCK
+from checks.shared.shared_numbers import shared_numbers
 from checks.shared.shown_files import ShownFiles
 
 TREE = ".verity"
-# from which read on the server lies; how many reads there were, and how many lies
-ORDER, COUNTS = struct.Struct("=Q"), struct.Struct("=QQ")
+# where it stands from which read on the server lies, how many reads there were, and how many lies
+FIRST, READS, LIES = 0, 1, 2
 NEVER = 2 ** 64 - 1
 
 
@@ -184,24 +183,24 @@ class LyingFiles(ShownFiles):
     """The files of some images, shown by a process of its own, which lies from some read on."""
 
     def __init__(self, room, lie, first=NEVER):
-        self.lie, self.shared = lie, mmap.mmap(-1, ORDER.size + COUNTS.size)
+        self.lie, self.shared = lie, shared_numbers(3)
         self.begin(first)
         super().__init__(room, list(lie.right))
 
     def begin(self, first=0):
         """From this read on it lies."""
-        ORDER.pack_into(self.shared, 0, first)
+        self.shared[FIRST] = first
 
     def counts(self):
         """How many reads came so far, and how many were answered by lies."""
-        return COUNTS.unpack_from(self.shared, ORDER.size)
+        return self.shared[READS], self.shared[LIES]
 
     def is_on(self):
-        return self.counts()[0] >= ORDER.unpack_from(self.shared)[0]
+        return self.shared[READS] >= self.shared[FIRST]
 
     def count(self, reads, lies):
-        before = self.counts()
-        COUNTS.pack_into(self.shared, ORDER.size, before[0] + reads, before[1] + lies)
+        self.shared[READS] += reads
+        self.shared[LIES] += lies
 
     def size(self, name):
         size = self.lie.size(name, self.is_on())

@@ -1,13 +1,13 @@
 """A process that changes the files of sealed images in place while they are read, and mends them again."""
-import mmap
 import os
-import struct
 import time
 
 from checks.plain.plain_verity import BLOCK
+from checks.shared.shared_numbers import shared_numbers
 
 WAITING, WRITING, ENDING = 0, 1, 2
-STATE = struct.Struct("=QQ")
+# what the process does, and how many changes it has begun
+STATE, CHANGES = 0, 1
 
 
 class Writer:
@@ -15,7 +15,7 @@ class Writer:
 
     def __init__(self, rng, images, path_of):
         self.rng, self.images, self.path_of = rng, images, path_of
-        self.shared = mmap.mmap(-1, STATE.size)
+        self.shared = shared_numbers(2)
         self.process = os.fork()
         if self.process == 0:
             try:
@@ -24,22 +24,22 @@ class Writer:
                 os._exit(0)
 
     def begin(self):
-        struct.pack_into("=Q", self.shared, 0, WRITING)
+        self.shared[STATE] = WRITING
 
     def changes(self):
         """How many changes it has begun."""
-        return STATE.unpack_from(self.shared)[1]
+        return self.shared[CHANGES]
 
     def end(self):
         """Ends it, and mends the files."""
-        struct.pack_into("=Q", self.shared, 0, ENDING)
+        self.shared[STATE] = ENDING
         os.waitpid(self.process, 0)
         for image in self.images:
             for name, data in image.files().items():
                 write_all(self.path_of(name), data)
 
     def state(self):
-        return STATE.unpack_from(self.shared)[0]
+        return self.shared[STATE]
 
     def write_on(self):
         while self.state() == WAITING:
@@ -49,7 +49,7 @@ class Writer:
         while self.state() == WRITING:
             name, right, other = self.rng.choice(rights)
             # counted before it is made, so that none is seen that is not counted
-            struct.pack_into("=Q", self.shared, 8, self.changes() + 1)
+            self.shared[CHANGES] += 1
             self.change(opened[name], right, other)
 
     def change(self, file, right, other):

@@ -1,15 +1,14 @@
 """A file, `image`, in a file system of its own, whose reads wait, fail or tell other bytes as a check says."""
 import errno
-import mmap
-import struct
 
+from checks.shared.shared_numbers import shared_numbers
 from checks.shared.shown_files import ShownFiles
 
 # what is done with reads that touch some bytes: their reply is held back, is EIO, has a few bytes, or has other ones
 SERVE, WAIT, FAIL, CUT, TURN = 0, 1, 2, 3, 4
 FEW = 100
-# what the check writes of reads, and what the server counts of them, each in a place of its own
-ORDER, COUNTS = struct.Struct("=QQQ"), struct.Struct("=QQ")
+# what the check writes of reads, and what the server counts of them
+ORDER, HELD, READS = slice(0, 3), 3, 4
 
 
 def turned(data):
@@ -21,30 +20,25 @@ class WatchedFile(ShownFiles):
     """The file, shown by a process of its own."""
 
     def __init__(self, room, data):
-        self.data, self.shared = data, mmap.mmap(-1, ORDER.size + COUNTS.size)
+        self.data, self.shared = data, shared_numbers(5)
         super().__init__(room, ["image"])
         self.image = self.path("image")
 
     def order(self, what, first=0, last=1 << 63):
         """From now on this is done with reads that touch bytes of this range."""
-        ORDER.pack_into(self.shared, 0, what, first, last)
+        for place, number in enumerate((what, first, last)):
+            self.shared[place] = number
 
     def ordered(self):
-        return ORDER.unpack_from(self.shared)
-
-    def counts(self):
-        return COUNTS.unpack_from(self.shared, ORDER.size)
-
-    def count(self, held, reads):
-        COUNTS.pack_into(self.shared, ORDER.size, held, reads)
+        return tuple(self.shared[ORDER])
 
     def held_back(self):
         """How many reads wait for another order."""
-        return self.counts()[0]
+        return self.shared[HELD]
 
     def reads(self):
         """How many reads came so far."""
-        return self.counts()[1]
+        return self.shared[READS]
 
     def end(self):
         self.order(SERVE)
@@ -54,14 +48,14 @@ class WatchedFile(ShownFiles):
         return len(self.data)
 
     def note_waiting(self, count):
-        self.count(count, self.reads())
+        self.shared[HELD] = count
 
     def answer_read(self, unique, name, offset, size):
         what, first, last = self.ordered()
         touched = offset < last and first < offset + size
         if touched and what == WAIT:
             return False
-        self.count(self.held_back(), self.reads() + 1)
+        self.shared[READS] += 1
         if touched and what == FAIL:
             self.reply(unique, error=errno.EIO)
         elif touched and what == TURN:
