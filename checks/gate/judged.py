@@ -8,7 +8,7 @@ ERROR = re.compile(r"(?:\./)?((?:src|specs|proofs)/\S+):(\d+):\d+: error\S* (.*)
 AT_NAME = "only at a name"
 # a proof that names what is not there, and what cites that proof
 NAMES = re.compile(r"has no field|is not in scope|has no `|was not admitted")
-IMPL = re.compile(r"impl(?:<.*?>)? (?:(\w+)(?:<(.*)>)? for )?&?(?:'\w+ )?(\w+)")
+IMPL = re.compile(r"impl(?:<.*?>)? (?:(?:\w+::)*(\w+)(?:<(.*)>)? for )?&?(?:'\w+ )?(\w+)")
 TYPE = re.compile(r"(?m)^(?:pub(?:\([a-z]+\))? )?(?:struct|enum|trait|type) (\w+)")
 
 
