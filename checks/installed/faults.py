@@ -60,13 +60,16 @@ def images(root):
         hold("by mount, of " + name, (32, lines.replace("strata-mount", "mount.strata")), (done.status, done.err))
     brought = "`strata-layers pull SOURCE %s` brings it there"
     far = "no such file; `strata-layers pull %s NAME` brings it into the store as image:NAME"
+    copied = ("no such file; `skopeo copy %s oci:LAYOUT:TAG` makes a layout of it, and `strata-layers pull oci:LAYOUT:TAG NAME` "
+              "brings it into the store as image:NAME")
     of_layout = "no such file; /srv/layout is an OCI layout: `strata-layers /srv/layout:1 FOLDER` makes images of its layers"
     for name, why in (("none:1", "no such file, and no such image in /var/lib/strata; " + brought % "none:1"),
                       ("none.romfs", "no such file or directory"), ("/srv/layout:1", of_layout),
-                      ("docker://host/app:1", far % "docker://host/app:1"), ("oci:none:1", far % "oci:none:1")):
+                      ("docker://host/app:1", far % "docker://host/app:1"), ("oci:none:1", far % "oci:none:1"),
+                      ("docker-daemon:app:1", copied % "docker-daemon:app:1"), ("dir:/srv/folder", copied % "dir:/srv/folder")):
         hold("no file and no image", (1, "image 1: cannot be read\nstrata-mount: image 1 is %s: %s\n" % (name, why)),
              refused(root, name))
-    hold_meant(root, far)
+    hold_meant(root, far, copied)
     hold("no image of a name", (1, "strata-mount: none: no such image in /var/lib/strata; %s\n" % brought % "none"),
          refused(root, "image:none"))
     done = root.run("prlimit", "--nofile=20", "strata-mount", *["/srv/lower.romfs"] * 30, "/mnt")
@@ -83,11 +86,12 @@ def images(root):
             "strata-mount and by mount")
 
 
-def hold_meant(root, far):
+def hold_meant(root, far, copied):
     """Holds what is said of a word of mount(8) that was split at its colons, and of `image:` before what is pulled."""
     split = "no such files (colons separate images); for an image of the store say image:%s"
+    archive = "docker-archive:/srv/lower.romfs"
     for word, why in (("docker://host/app:1", far % "docker://host/app:1"), ("oci:none:1", far % "oci:none:1"),
-                      ("none:1", split % "none:1")):
+                      (archive, copied % archive), ("none:1", split % "none:1")):
         done = root.run("mount", "-t", "strata", word, "/mnt")
         hold("mount " + word, (32, "mount.strata: %s: %s\n" % (word, why)), (done.status, done.err))
     named = far.replace("no such file", "no name of an image") % "docker://host/app:1"

@@ -339,7 +339,7 @@ def test_image_of_a_large_folder(room):
             out.truncate(2 ** 31 - 200)
     refuse_image(room, (folder, image),
                  "c: the image would be larger than 4294967280 bytes with its attributes; "
-                 "a directory can be several images, and strata-layers convert splits layers")
+                 "make images of parts, each with the same paths from its root, and mount them together")
 
 
 def test_image_of_an_archive(room):

@@ -8,11 +8,11 @@ import struct
 import subprocess
 
 from checks.layers.folder_images import image_of, put, set_mark
-from checks.layers.layer_room import LeftOut, expect, run_tool
+from checks.layers.layer_room import GNU, LeftOut, expect, run_tool
 from checks.layers.lost_attributes import ACCESS, CLOSED, CLOSED_TEXT, GROUP, MASK, OTHER, OWNER, USER, acl, texts
 from checks.layers.shown_trees import read
 from checks.plain import plain, plain_attributes
-from checks.shared.layer_files import archive, directory, file, hard, images_in, layout_of, symlink
+from checks.shared.layer_files import archive, directory, entry, file, hard, images_in, layout_of, symlink
 from checks.shared.pulled import pulled_line
 from strata_format.read_romfs import ReadImage
 
@@ -79,6 +79,31 @@ def test_kept_of_archives(room):
     # readers of version 1 see the same modes as ever
     stack = plain.stack_of([read(image)], True, True)
     expect(stack.attributes(stack.paths[(b"ping",)])[0] == 0o100755, "the mode")
+
+
+def test_empty_records(room):
+    """The last record of an attribute counts, and an empty one takes it back, a global header's too: pax, "extended header
+    keywords"."""
+    front = "SCHILY.xattr.user."
+    made = archive([
+        entry(b"x", "x", records((front + "a", "1"), (front + "b", "2"), (front + "a", ""))), file("first"),
+        entry(b"x", "x", records((front + "a", ""), (front + "a", "1"), (front + "a", "3"))), file("last"),
+        entry(b"g", "g", records((front + "a", "1"))), file("all"), entry(b"x", "x", records((front + "a", ""))), file("none")], GNU)
+    out = room.name()
+    expect(room.convert(layout_of(room.name(), [made]).path, out)[0] == 0, "it was refused")
+    got = {path: items for path, (_, items) in kept(out + "/00.romfs").items() if items}
+    wanted = {"first": {b"user.b": b"2"}, "last": {b"user.a": b"3"}, "all": {b"user.a": b"1"}}
+    expect(got == wanted, "kept: %r" % got)
+
+
+def records(*said):
+    """Records of an extended header: the length of each counts itself."""
+    found = b""
+    for keyword, value in said:
+        text = (" %s=%s\n" % (keyword, value)).encode()
+        size = len(text) + len(str(len(text) + len(str(len(text)))))
+        found += b"%d" % size + text
+    return found
 
 
 def test_kept_of_folders(room):

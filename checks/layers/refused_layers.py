@@ -43,7 +43,7 @@ def test_large(room):
     room.refuse("layer 0: the archive is truncated", info.tobuf(GNU))
     info.size += 1
     room.refuse("layer 0: large: the image would be larger than 4294967280 bytes with its attributes; "
-                 "a directory can be several images, and strata-layers convert splits layers", info.tobuf(GNU))
+                 "make images of parts, each with the same paths from its root, and mount them together", info.tobuf(GNU))
     info.size = 2 ** 40
     room.refused(layout_of(room.name(), [info.tobuf(GNU)]).path,
                  "layer 0: large: a file of 1099511627776 bytes, at most 4294967280 are held",

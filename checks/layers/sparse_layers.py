@@ -1,10 +1,14 @@
 """Tests of tools/layers.py: sparse files in layers, as GNU tar and bsdtar write them, and maps that
 lie. A test is a function of a room."""
 import os
+import pty
+import re
 import shutil
 import struct
 import subprocess
+import sys
 
+from checks import TOOLS
 from checks.layers.folder_images import hold_image
 from checks.layers.layer_room import GNU, PAX, LeftOut, expect, run_tool
 from checks.shared.layer_files import archive, directory, entry, file, layout_of
@@ -81,9 +85,6 @@ def pax_sparse(data, **records):
     """A sparse file of POSIX's form, with records, and a file behind it."""
     fields = {"GNU.sparse." + key: str(value) for key, value in records.items()}
     return archive([file("GNUSparseFile.0/a", data, pax_headers=fields), file("after", b"1")], PAX)
-
-
-
 
 
 def test_maps_of_headers(room):
@@ -171,3 +172,53 @@ def test_zeros_take_no_room(room):
         # the volume's name is the archive's digest where it is known
         expect(len(found) == len(wanted) and found[512:] == wanted[512:], "other bytes")
         expect(blocks * 512 < 1 << 20, "%d blocks" % blocks)
+
+
+# the tool, whose line of progress comes at once
+AT_ONCE = """
+import sys
+sys.path.insert(0, sys.argv[1])
+from strata_format import progress
+progress.FIRST_AFTER = progress.NEXT_AFTER = 0
+from strata_layers.command import main
+sys.exit(main(sys.argv[2:]))
+"""
+PROGRESS = re.compile(rb"\r(\w+: \d+(?: of \d+)? MB(?:, \d+ MB unpacked)?)\x1b\[K")
+
+
+def progress_of(*words, given=subprocess.DEVNULL):
+    """The lines of progress that the tool writes on a terminal, where it ends well; and the last bytes."""
+    ours, theirs = pty.openpty()
+    child = subprocess.Popen([sys.executable, "-IBS", "-c", AT_ONCE, TOOLS, *words], stdin=given, stdout=subprocess.DEVNULL,
+                             stderr=theirs)
+    os.close(theirs)
+    text = b""
+    try:
+        while data := os.read(ours, 1 << 16):
+            text += data
+    except OSError:
+        pass  # nobody has the terminal open any more
+    os.close(ours)
+    expect(child.wait() == 0, "%r: told %r" % (words, text[-300:]))
+    expect(text.endswith(b"\r\x1b[K"), "%r: the line stays: %r" % (words, text[-100:]))
+    return {it.decode() for it in PROGRESS.findall(text)}
+
+
+def test_progress_over_holes(room):
+    """On a terminal what few bytes become is shown as it is unpacked, hashed and copied."""
+    large = gnu_sparse("a", 30 << 20, [(1 << 24, 5)], b"12345") + archive([directory("d")])
+    zeros = archive([file("zeros", bytes(12 << 20))])
+    layout, packed = (layout_of(room.name(), [it, it]).path for it in (large, zeros))
+    store, other, new = room.name(), room.name(), room.name()
+    got = progress_of("convert", "--store", store, "--compress", "gzip", layout, new + ":1")
+    expect({"hashed: 10 of 31 MB", "hashed: 31 of 31 MB", "packed: 20 of 31 MB"} <= got, "convert: %r" % got)
+    got = progress_of("pull", "--store", other, "oci:" + new, "x:1")
+    expect({"layers: 0 of 0 MB, 10 MB unpacked", "layers: 0 of 0 MB, 31 MB unpacked"} <= got, "pull: %r" % got)
+    got = progress_of(packed, room.name())
+    expect("layers: 0 of 12 MB, 10 MB unpacked" in got and any(it.startswith("hashed: ") for it in got), "a folder: %r" % got)
+    folder = room.name()
+    os.mkdir(folder)
+    with open(folder + "/a", "wb") as out:
+        out.write(bytes(range(256)) * (12 << 12))
+    got = progress_of("image", folder, room.name())
+    expect({"image: 2 of 12 MB", "image: 7 of 12 MB", "image: 12 of 12 MB"} <= got, "an image: %r" % got)

@@ -229,6 +229,11 @@ def printed_to_user(room, image):
     refused = subprocess.run([*words, "--share", "--print", image], **who)
     hold("a folder in which all may write", 1, refused.returncode)
     hold("what is said of it", True, "nobody else may write in it" in refused.stderr)
+    del who["env"]["XDG_RUNTIME_DIR"]
+    refused = subprocess.run([*words, "--share", "--print", image], **who)
+    line = ("mount.py: /run/user/%d: No such file or directory; shared mounts are noted there; without a login session, set "
+            "XDG_RUNTIME_DIR to a directory of your own, in which nobody else may write\n" % OTHER)
+    hold("without a login session", (1, line), (refused.returncode, refused.stderr))
     return "and for an unprivileged user"
 
 

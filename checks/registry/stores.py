@@ -379,10 +379,10 @@ def check_hints(room):
 
 def check_config(room):
     """Entry point, environment, folder and user, for people and as words that a shell evaluates."""
-    source = made.Layout(room.name(), {**made.RUN, "Env": [*made.RUN["Env"], "HOME"]})
+    source = made.Layout(room.name(), {**made.RUN, "Env": [*made.RUN["Env"], "HOME", "=a b", "=x=y", ""]})
     source.index(made.tagged(source.image(made.LAYERS), "1"))
     room.layers("pull", "oci:" + source.path, "a")
-    hold("config", "entrypoint /bin/say 'it'\"'\"'s'\ncommand 'a b'\nenv PATH=/bin\nenv 'WORD=x y'\nenv HOME\nfolder /var\nuser 7:8\n",
+    hold("config", "entrypoint /bin/say 'it'\"'\"'s'\ncommand 'a b'\nenv PATH=/bin\nenv 'WORD=x y'\nenv HOME\nenv '=a b'\nenv =x=y\nenv ''\nfolder /var\nuser 7:8\n",
          room.layers("config", "a"))
     rest = ["--clearenv", "--setenv", "HOME", "/", "--setenv", "PATH", "/bin", "--setenv", "WORD", "x y",
             "--chdir", "/var", "--", "/bin/say", "it's", "a b"]
@@ -391,6 +391,9 @@ def check_config(room):
     words = shlex.split(room.layers("config", "--podman", "a"))
     hold("podman", ["--entrypoint", '["/bin/say", "it\'s", "a b"]', "--workdir", "/var", "--env", "PATH=/bin",
                     "--env", "WORD=x y", "--user", "7:8"], words)
+    told = "the image's environment has entries that are not NAME=VALUE, left out here: HOME '=a b' =x=y ''\n"
+    for words in (["--podman", "a"], ["--bwrap", *(["--as-caller"] if os.geteuid() else []), "a"]):
+        hold("told", (0, told), room.tried("config", *words)[::2])
     line = "tools/layers.py config: %s: after NAME[:TAG] only options of bwrap are allowed, with --bwrap before it; see --help\n"
     for before in ((), ("--podman",)):
         for after in (("--ro-bind", "/", "/"), ("--bwrap",), ("x",)):
@@ -398,6 +401,27 @@ def check_config(room):
         hold("without --bwrap", (2, "", "tools/layers.py config: argument --as-caller: only with --bwrap; see --help\n"),
              room.tried("config", *before, "--as-caller", "a"))
     hold_user_by_name(room)
+
+
+def check_closed_places(room):
+    """What the image's user cannot reach is not bound: a folder on the way is closed to him."""
+    if os.geteuid() != 0:
+        raise LeftOut("only root becomes another user")
+    os.chmod(room.path, 0o755)
+    room.layers("pull", "oci:" + made.layout(room.name()).path, "a")
+    closed, link = room.name(), room.name()
+    os.makedirs(closed + "/below/tree", 0o755)
+    os.symlink(closed + "/below", link)
+    line = "%s: the image's user 7:8 may not pass %s; mount it elsewhere, as below /mnt or /srv"
+    for mode, owner, is_open in ((0o700, 0, False), (0o711, 0, True), (0o700, 7, True), (0o710, 0, False), (0o071, 7, False)):
+        os.chown(closed, owner, 0)
+        os.chmod(closed, mode)
+        for place in (closed + "/below/tree", link + "/tree", closed + "/./below"):
+            words = "config", "--bwrap", "a", "--dev", "/dev", "--ro-bind", place, "/"
+            if is_open:
+                hold("%o" % mode, True, place in shlex.split(room.layers(*words)))
+            else:
+                room.refused(line % (place, closed), *words)
 
 
 def hold_bwrap(room, name, numbers, become, rest):
@@ -462,6 +486,11 @@ def check_other_forms(room):
     room.refused("%s:a: no such folder" % path + archive, "pull", "oci:%s:a" % path)
     room.refused("%s/oci-layout: no such file or directory; `skopeo copy dir:%s" % (where, where) + end % "",
                  "convert", where, room.name())
+    made_of = "; `skopeo copy %s oci:LAYOUT:TAG` makes a layout of it"
+    for word in ("docker-archive:" + path, "oci-archive:" + path, "dir:" + where, "containers-storage:localhost/a:1",
+                 "docker-daemon:a:1"):
+        room.refused("%s: no such folder" % word + made_of % word, "convert", word, room.name())
+        room.refused("%s: oci:LAYOUT[:TAG] or docker://HOST/NAME[:TAG] is wanted" % word + made_of % word, "pull", word, "a")
 
 
 def printed_examples():
@@ -495,4 +524,4 @@ def check_version(room):
 
 
 CHECKS = [check_convert, check_compress, check_archives, check_platforms, check_pull, check_pull_on_btrfs, check_missing, check_shared, check_rows_of_the_layers_below, check_names,
-          check_hints, check_config, check_lost, check_other_forms, check_examples_of_the_page, check_version]
+          check_hints, check_config, check_closed_places, check_lost, check_other_forms, check_examples_of_the_page, check_version]

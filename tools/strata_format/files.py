@@ -118,16 +118,21 @@ def data_parts(number, size):
             yield start, end
 
 
-def copy_front(source, out, size):
+def copy_front(source, out, size, heard):
     """Copies the first bytes of an open file into a new one, with their holes; an error where there
-    are fewer."""
+    are fewer. `heard` gets how many are copied."""
     os.ftruncate(out, size)
+    done = 0
     for at, end in data_parts(source, size):
         os.lseek(out, at, os.SEEK_SET)
+        heard(at - done)
+        done = end
         while at < end:
             count = os.sendfile(out, source, at, min(PIECE, end - at))
             if count == 0:
                 raise OSError(errno.EIO, os.strerror(errno.EIO))
             at += count
+            heard(count)
+    heard(size - done)
     if os.fstat(source).st_size < size:
         raise OSError(errno.EIO, os.strerror(errno.EIO))

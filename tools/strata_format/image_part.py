@@ -77,8 +77,9 @@ class Part:
         os.lseek(self.out.fileno(), size, os.SEEK_CUR)
         self.at += size
 
-    def put_file(self, number, start, size):
-        """Appends bytes of an open file, from a place on; how many there were, at most `size`."""
+    def put_file(self, number, start, size, heard):
+        """Appends bytes of an open file, from a place on; how many there were, at most `size`, which
+        `heard` gets, too."""
         self.flush()
         done = 0
         while done < size:
@@ -86,6 +87,7 @@ class Part:
             if count == 0:
                 break
             done += count
+            heard(count)
         self.at += done
         return done
 
@@ -122,8 +124,8 @@ class Part:
         self.nodes += 1
 
     def too_large(self, path):
-        return ("%s: the image would be larger than %d bytes with its attributes; a directory can be"
-                " several images, and strata-layers convert splits layers"
+        return ("%s: the image would be larger than %d bytes with its attributes; make images of"
+                " parts, each with the same paths from its root, and mount them together"
                 % (path_text(path), self.most))
 
     # --- headers, and data behind them ---

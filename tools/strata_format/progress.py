@@ -12,10 +12,11 @@ MEGABYTE = 1_000_000
 
 class Progress:
     """Bytes of all, or None where it is not known how many there are. `add` tells how many more
-    were read; `end` takes the line away."""
+    were read, and `unpack` how many came of them, since few may unpack to very many; `end` takes
+    the line away."""
 
     def __init__(self, what, total):
-        self.what, self.total, self.count = what, total, 0
+        self.what, self.total, self.count, self.unpacked = what, total, 0, 0
         try:
             self.is_shown = os.isatty(sys.stderr.fileno())
         except (OSError, ValueError, AttributeError):
@@ -24,11 +25,21 @@ class Progress:
 
     def add(self, count):
         self.count += count
+        self.show()
+
+    def unpack(self, count):
+        self.unpacked += count
+        self.show()
+
+    def show(self):
         if self.is_shown and time.monotonic() >= self.due:
             self.due, self.is_written = time.monotonic() + NEXT_AFTER, True
-            of_all = "" if self.total is None else " of %d" % (self.total // MEGABYTE)
-            line = "%s: %d%s MB" % (self.what, self.count // MEGABYTE, of_all)
-            ends.write("\r" + line + "\x1b[K")
+            ends.write("\r" + self.line() + "\x1b[K")
+
+    def line(self):
+        of_all = "" if self.total is None else " of %d" % (self.total // MEGABYTE)
+        unpacked = ", %d MB unpacked" % (self.unpacked // MEGABYTE) if self.unpacked else ""
+        return "%s: %d%s MB%s" % (self.what, self.count // MEGABYTE, of_all, unpacked)
 
     def end(self):
         if self.is_written:

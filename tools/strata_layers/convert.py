@@ -92,7 +92,8 @@ class Converter:
                 return (*self.packed_blob(layer, number), layer.digits)
             if not self.target.has(layer.digits, layer.size):
                 self.hold_digest(layer, number)
-                self.target.copy_of(number, layer.digits)
+                with Progress("copied", layer.size) as progress:
+                    self.target.copy_of(number, layer.digits, progress.add)
             return layer.digits, layer.size, layer.digits
         finally:
             os.close(number)
@@ -180,7 +181,7 @@ def convert(store, layout, tag, word, options, lost):
         maker = Maker(store, lost, checks_archives=False)
         size = sum(it.size for image in images for it in image.layers)
         with Progress("layers", size) as progress:
-            layout.heard = progress.add
+            layout.heard, layout.unpacked = progress.add, progress.unpack
             layers = [maker.layers(layout, image) for image in images]
         lost.settle()
         with LayoutWriter(folder) as target:

@@ -75,31 +75,32 @@ class File:
                 os.close(number)
         except OSError as fault:
             raise self.folder.fault(fault, self.place, self.name) from None
-        self.folder.heard(self.size)
 
     def copy_open(self, number, part):
         found = os.fstat(number)
         if seen(found) == self.seen:
             begin = part.at
-            copy_data(number, found, part)
+            copy_data(number, found, part, self.folder.heard)
             if part.at - begin == self.size and seen(os.fstat(number)) == self.seen:
                 return
         raise changed(self.place.path(self.name))
 
 
-def copy_data(number, found, part):
-    """Appends the data of an open file to a part of an image, with its holes."""
-    size = found.st_size
+def copy_data(number, found, part, heard):
+    """Appends the data of an open file to a part of an image, with its holes; `heard` gets how many
+    bytes."""
+    size, at = found.st_size, 0
     if size <= ROOM:
         part.put(os.read(number, size))
     elif found.st_blocks * 512 >= size:
-        part.put_file(number, 0, size)
+        at = part.put_file(number, 0, size, heard)
     else:
-        at = 0
         for start, end in data_parts(number, size):
             part.put_hole(start - at)
-            at = start + part.put_file(number, start, end - start)
+            heard(start - at)
+            at = start + part.put_file(number, start, end - start, heard)
         part.put_hole(size - at)
+    heard(size - at)
 
 
 def changed(path):

@@ -4,7 +4,7 @@ import json
 import os
 import shlex
 
-from strata_format.refused import Refused, shown
+from strata_format.refused import Refused, one_line, shown
 from strata_layers import user_namespace
 
 HOME = "HOME"
@@ -40,6 +40,12 @@ def one_text(value, name):
     return found
 
 
+def is_variable(text):
+    """Whether an entry of an environment has a name, and `=` behind it."""
+    name, equals, _ = text.partition("=")
+    return name != "" and equals != ""
+
+
 class RunConfig:
     """How an image is run."""
 
@@ -53,8 +59,16 @@ class RunConfig:
     def variables(self):
         """The names and values of the environment. An empty HOME is none, as container runtimes
         have it."""
-        found = [text.partition("=") for text in self.environment]
+        found = [text.partition("=") for text in self.environment if is_variable(text)]
         return [(name, value) for name, _, value in found if value or name != HOME]
+
+    def no_variables(self):
+        """A line of the entries of the environment that no program can get, or None."""
+        found = [it for it in self.environment if not is_variable(it)]
+        if not found:
+            return None
+        return one_line("the image's environment has entries that are not NAME=VALUE, left out here: %s"
+                        % " ".join(map(shlex.quote, found)))
 
     def words(self):
         """The words of the program that the image starts."""
@@ -114,6 +128,57 @@ def hold_open(options, user):
                           " -o allow_other" % (shown(os.fsencode(place)), user.uid, user.gid))
 
 
+def closed_to(place, user):
+    """The first folder on the way to a place that a user may not pass, or None: a process that has
+    become him looks at each."""
+    ways = [*ways_to(os.path.realpath(place)), *ways_to(os.path.abspath(place))]
+    source, told = os.pipe()
+    child = os.fork()
+    if child == 0:
+        try:
+            os.setgroups(user.groups)
+            os.setresgid(user.gid, user.gid, user.gid)
+            os.setresuid(user.uid, user.uid, user.uid)
+            os.write(told, b"%d" % count_passed(ways))
+        finally:
+            os._exit(0)
+    os.close(told)
+    os.waitpid(child, 0)
+    with os.fdopen(source, "rb") as file:
+        count = int(file.read() or len(ways))
+    return ways[count - 1] if count < len(ways) else None
+
+
+def ways_to(path):
+    """The folders on the way to a whole path, and this."""
+    found = []
+    while path != "/":
+        found.append(path)
+        path = os.path.dirname(path)
+    return ["/", *reversed(found)]
+
+
+def count_passed(ways):
+    """How many of these this process may look at until it may not."""
+    for count, way in enumerate(ways):
+        try:
+            os.stat(way)
+        except PermissionError:
+            return count
+        except OSError:
+            pass
+    return len(ways)
+
+
+def hold_reached(options, user):
+    """Looks that another user than the caller reaches what options of bwrap bind."""
+    for option, place in zip(options, options[1:]):
+        closed = closed_to(place, user) if option in BINDS else None
+        if closed is not None:
+            raise Refused("%s: the image's user %d:%d may not pass %s; mount it elsewhere, as below /mnt or /srv"
+                          % (shown(os.fsencode(place)), user.uid, user.gid, shown(os.fsencode(closed))))
+
+
 def renumbered(user, caller):
     """The words of bwrap by which the caller's own rights have the user's numbers in the sandbox."""
     if caller[0] == 0 and not user_namespace.is_callers():
@@ -128,6 +193,7 @@ def bwrap_words(it, user, caller, options, as_caller):
     words = [] if as_caller else become(user, caller)
     if words:
         hold_open(options, user)
+        hold_reached(options, user)
     words += ["bwrap", *options, *(renumbered(user, caller) if as_caller else []), "--clearenv"]
     variables = it.variables()
     if HOME not in dict(variables):

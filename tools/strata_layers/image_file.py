@@ -51,7 +51,7 @@ def archive_read(file, progress):
     other = heard.other_packing()
     if other is not None:
         raise Refused("standard input is compressed with %s: pass it through `%s -dc` first" % (other, other))
-    return Unpacked(heard, heard.packing())
+    return Unpacked(heard, heard.packing(), heard=progress.unpack)
 
 
 def check_aim(path):

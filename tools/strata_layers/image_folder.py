@@ -5,7 +5,7 @@ import os
 import re
 
 from strata_format.files import new_file, open_folder, write_all
-from strata_format.progress import Progress
+from strata_format.progress import Progress, unheard
 from strata_format.refused import Refused, shown
 from strata_layers.below import Below
 from strata_layers.layer_images import LayerWriter
@@ -72,6 +72,8 @@ class Digests:
     def __init__(self):
         self.pool, self.parts, self.waiting, self.found = None, [], [], []
         self.is_ended = False
+        # how many bytes there are, and how many of them were read; who hears of more
+        self.size, self.count, self.heard = 0, 0, unheard
 
     def __enter__(self):
         return self
@@ -87,6 +89,7 @@ class Digests:
         """Adds the image in an open file, a part of a layer."""
         self.parts.append(part)
         self.waiting.append((os.dup(number), os.fstat(number).st_size))
+        self.size += self.waiting[-1][1]
 
     def begin(self):
         """Begins to read what waits."""
@@ -103,10 +106,12 @@ class Digests:
         finally:
             os.close(number)
 
-    def go_on(self, _):
+    def go_on(self, count):
         """Ends a read of which nobody waits for the end."""
         if self.is_ended:
             raise InterruptedError
+        self.count += count
+        self.heard(count)
 
     def layers(self):
         """The images, each of which lies on the one before, if they are several."""
@@ -114,9 +119,13 @@ class Digests:
             return []
         self.begin()
         below, layers = None, []
-        for part, it in zip(self.parts, self.found):
-            layers.append(StoredLayer(*it.result(), part, below))
-            below = layers[-1].digits
+        with Progress("hashed", self.size) as progress:
+            progress.add(self.count)
+            self.heard = progress.add
+            for part, it in zip(self.parts, self.found):
+                layers.append(StoredLayer(*it.result(), part, below))
+                below = layers[-1].digits
+            self.heard = unheard
         return layers
 
 
@@ -129,7 +138,7 @@ def write_images(word, path, lost):
     try:
         with Progress("layers", sum(it.size for it in descriptors)) as progress, \
                 Digests() as digests:
-            layout.heard = progress.add
+            layout.heard, layout.unpacked = progress.add, progress.unpack
             for number, descriptor in enumerate(descriptors):
                 made = len(folder.new)
                 digests.begin()

@@ -79,7 +79,7 @@ class LayerWriter:
         is_good = self.archive is not None and GOOD_DIGEST.fullmatch(self.archive)
         said = known or (self.archive if is_good else None)
         is_hashed = known is None and (self.is_checked or said is None)
-        source = Unpacked(blob, packing, is_hashed)
+        source = Unpacked(blob, packing, is_hashed, heard=self.layout.unpacked)
         try:
             image = self.write_archive(source, new_file, volume_name(said or NO_DIGEST), lost)
             read_rest(source)

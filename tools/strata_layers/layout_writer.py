@@ -39,12 +39,12 @@ def check_tag(tag):
         raise Refused("%s: not a valid tag" % shown(str(tag)))
 
 
-def copy_file(source, out):
+def copy_file(source, out, heard):
     """Copies an open file into a new one; where the file system can, the two share their blocks."""
     with contextlib.suppress(OSError):
         fcntl.ioctl(out, FICLONE, source)
         return
-    copy_front(source, out, os.fstat(source).st_size)
+    copy_front(source, out, os.fstat(source).st_size, heard)
 
 
 def take_away(remove, name, above):
@@ -135,10 +135,11 @@ class LayoutWriter:
             self.write(self.blobs, digits, data)
         return {"mediaType": media, "digest": "sha256:" + digits, "size": len(data), **more}
 
-    def copy_of(self, number, digits):
-        """Writes a blob that is an open file, whose digest has these digits."""
+    def copy_of(self, number, digits, heard):
+        """Writes a blob that is an open file, whose digest has these digits; `heard` gets how many
+        bytes are copied."""
         with self.new_file() as new:
-            copy_file(number, new.file.fileno())
+            copy_file(number, new.file.fileno(), heard)
             self.keep(new, self.blobs, digits)
 
     def blob(self, pieces):

@@ -21,6 +21,7 @@ import stat
 from strata_format.files import READING
 from strata_format.progress import unheard
 from strata_format.refused import Refused, shown
+from strata_layers.transports import layout_hint
 
 Descriptor = collections.namedtuple("Descriptor", "media algorithm digits size reference platform is_note")
 
@@ -221,10 +222,12 @@ def tagged(found, tag, where):
 
 
 class Layout:
-    """An image layout in a folder."""
+    """An image layout in a folder. `heard` gets how many bytes of its blobs are read, and
+    `unpacked` how many come of those that are packed."""
 
     def __init__(self, folder):
-        self.folder, self.name, self.heard = folder, shown(os.fsencode(folder)), unheard
+        self.folder, self.name = folder, shown(os.fsencode(folder))
+        self.heard = self.unpacked = unheard
         said = parsed(self.small_file("oci-layout"), self.name + "/oci-layout")
         if said.get("imageLayoutVersion") != "1.0.0":
             raise Refused("%s/oci-layout: no version 1.0.0" % self.name)
@@ -336,4 +339,4 @@ def hint_of(word):
     """What helps where a word was meant as what `pull` and skopeo take."""
     if word.startswith("docker://"):
         return "; `strata-layers pull` brings images of a registry, and `skopeo copy` makes a layout of one"
-    return "; name the folder without oci:" if word.startswith("oci:") else ""
+    return "; name the folder without oci:" if word.startswith("oci:") else layout_hint(word)

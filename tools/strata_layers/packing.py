@@ -12,6 +12,7 @@ import subprocess
 import threading
 import zlib
 
+from strata_format.progress import unheard
 from strata_format.refused import Refused
 
 # so many bytes fit into a processor's own memory
@@ -170,10 +171,11 @@ def unpacker(source, packed):
 
 class Unpacked:
     """The bytes of a source as they were before they were packed; their digest, where it is asked
-    for. A few bytes may unpack to no end of them, so there is a most."""
+    for. A few bytes may unpack to no end of them, so there is a most. Of packed ones `heard` gets
+    how many came."""
 
-    def __init__(self, source, packed, is_hashed=False, most=UNPACKED_MOST):
-        self.unpacker = unpacker(source, packed)
+    def __init__(self, source, packed, is_hashed=False, most=UNPACKED_MOST, heard=unheard):
+        self.unpacker, self.heard = unpacker(source, packed), heard if packed else unheard
         self.data, self.at, self.left, self.most = b"", 0, most, most
         self.hash = hashlib.sha256() if is_hashed else None
 
@@ -199,6 +201,7 @@ class Unpacked:
             raise Refused("decompressed it has more than %d bytes" % self.most)
         if self.hash is not None:
             self.hash.update(data)
+        self.heard(len(data))
         return data
 
     def digest(self):

@@ -10,6 +10,7 @@ from strata_layers.layouts import digest_of, parsed
 from strata_layers.open_layout import open_layout
 from strata_layers.store_images import LATEST, StoredImage, count_of, put_image, split_image
 from strata_layers.store_layers import Maker
+from strata_layers.transports import layout_hint
 
 LAYOUT = "oci:"
 # so long may a manifest be that is kept; one of 128 layers has a quarter of that
@@ -58,15 +59,15 @@ def pull(store, source, name, platform, lost):
     """Brings an image into a store under a name; its whole name, how many layers it has, and how
     many of them are new."""
     if not source.startswith((LAYOUT, TRANSPORT)):
-        raise Refused("%s: oci:LAYOUT[:TAG] or docker://HOST/NAME[:TAG] is wanted"
-                      % shown(os.fsencode(source)))
+        raise Refused("%s: oci:LAYOUT[:TAG] or docker://HOST/NAME[:TAG] is wanted%s"
+                      % (shown(os.fsencode(source)), layout_hint(source)))
     name = checked_name(name or name_said(source))
     with store.locked():
         maker = Maker(store, lost, checks_archives=True)
         with opened(maker, source, platform) as (layout, found, digest, data):
             image = image_of(layout, found, platform)
             with Progress("layers", sum(it.size for it in image.layers)) as progress:
-                layout.heard = progress.add
+                layout.heard, layout.unpacked = progress.add, progress.unpack
                 layers = [it for found in maker.layers(layout, image) for it in found]
         lost.settle()
         text = sealed_text(data, layers)

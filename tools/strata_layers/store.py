@@ -23,6 +23,7 @@ from strata_format.json_text import value_of
 from strata_format.progress import unheard
 from strata_format.refused import Refused, faults_below, shown
 
+SYSTEM = "/var/lib"
 MARK, MARK_TEXT = "strata-store", b"1\n"
 DIGEST, DIGITS, DIGITS_COUNT = "sha256:", frozenset("0123456789abcdef"), 64
 NO_STORE = "%s: no store of layers"
@@ -35,10 +36,18 @@ ZEROS = bytes(PIECE)
 SMALL_MOST = 8 << 20
 
 
+def is_system_root():
+    """Whether this user is root, and not of a user namespace alone, where others own /var/lib."""
+    try:
+        return os.geteuid() == 0 and os.stat(SYSTEM).st_uid == 0
+    except OSError:
+        return os.geteuid() == 0
+
+
 def default_place():
     """Where the store is if nobody says."""
-    if os.geteuid() == 0:
-        return "/var/lib/strata"
+    if is_system_root():
+        return SYSTEM + "/strata"
     home = os.environ.get("XDG_DATA_HOME", "")
     if not os.path.isabs(home):
         home = os.path.join(os.path.expanduser("~"), ".local", "share")

@@ -7,6 +7,7 @@ import os
 
 from strata_format import trailer
 from strata_format.files import copy_front, is_zeros, write_all
+from strata_format.progress import Progress
 from strata_format.read_romfs import ReadImage
 from strata_format.refused import Refused, shown
 from strata_layers.below import Below
@@ -15,10 +16,10 @@ from strata_layers.layer_images import LayerWriter, read_blob
 from strata_layers.layout_images import PACKED_ROMFS
 from strata_layers.layouts import LAYERS_MOST, PACKED, digest_of
 from strata_layers.packing import PIECE, Unpacked
-from strata_layers.store import SMALL_MOST, digits_of, pieces_of
+from strata_layers.store import SMALL_MOST, digits_of
 from strata_layers.store_images import StoredLayer, layer_json, layer_of_json
-from strata_layers.store_seals import keep_seal, made_digest, noted_digest
-from strata_layers.verity import Sealing, sealed_pieces
+from strata_layers.store_seals import keep_seal, made_digest, noted_digest, sealed_file
+from strata_layers.verity import Sealing
 
 # a layer that was made by other rules is made anew
 MAKER = 5
@@ -145,7 +146,7 @@ class Maker:
                 writer = LayerWriter(layout, number, it, archive, self.checks_archives)
                 implied = writer.write(new_file, self.lost, below)
                 archive = archive if self.checks_archives else None
-                read = [sealed_pieces(pieces_of(new.file.fileno())) for new in files]
+                read = [sealed_file(new.file.fileno()) for new in files]
             else:
                 read, implied = [unpack_layer(layout, number, it, new_file())], []
                 self.hold_unpacked(it, "sha256:" + read[0][0], archive)
@@ -202,10 +203,11 @@ class Maker:
         rows = {**image.rows.every(), **{at: row for at, (row, _) in wanted.items()}}
         lists = {**image.rows.lists(), **{at: items for at, (_, items) in wanted.items()}}
         with self.store.new_file() as new:
-            copy_front(number, new.file.fileno(), image.full)
+            with Progress("copied", image.full) as progress:
+                copy_front(number, new.file.fileno(), image.full, progress.add)
             trailer.write_trailer(new.file.fileno(), image.full,
                                   {at: row for at, row in rows.items() if row is not None}, lists)
-            return self.kept(new, *sealed_pieces(pieces_of(new.file.fileno())), layer.part)
+            return self.kept(new, *sealed_file(new.file.fileno()), layer.part)
 
     def sealed(self, layer):
         """A layer of the store with its fs-verity digest. One that has no tree, as it was brought
@@ -288,13 +290,13 @@ def paths_said(value, where):
 def unpack_layer(layout, number, it, file):
     """Writes an image of romfs as it was before it was packed; the digits of its digest, and its
     seal."""
-    return read_blob(layout, number, it, lambda blob: write_unpacked(blob, it, file))
+    return read_blob(layout, number, it, lambda blob: write_unpacked(layout, blob, it, file))
 
 
-def write_unpacked(blob, it, file):
+def write_unpacked(layout, blob, it, file):
     # what is not packed is hashed as the blob
     is_hashed = PACKED_ROMFS[it.media] != "" or it.algorithm != "sha256"
-    source = Unpacked(blob, PACKED_ROMFS[it.media], is_hashed, UNPACKED_MOST)
+    source = Unpacked(blob, PACKED_ROMFS[it.media], is_hashed, UNPACKED_MOST, layout.unpacked)
     with Sealing() as sealing:
         try:
             for data in image_pieces(iter(lambda: source.read(PIECE), b"")):

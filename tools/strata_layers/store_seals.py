@@ -3,6 +3,7 @@ any has none until it is pulled again."""
 import json
 import os
 
+from strata_format.progress import Progress
 from strata_format.refused import Refused
 from strata_layers.store import TREE, pieces_of
 from strata_layers.verity import DIGEST, sealed_pieces, tree_size
@@ -32,9 +33,15 @@ def keep_seal(store, digits, seal):
     store.write_small(store.records, record_of(digits), data)
 
 
+def sealed_file(number):
+    """The digits of the SHA-256 of an open file, and its seal."""
+    with Progress("hashed", os.fstat(number).st_size) as progress:
+        return sealed_pieces(pieces_of(number), progress.add)
+
+
 def made_digest(store, number, digits):
     """The digest of a layer in an open file, which has no tree yet, if its bytes are right."""
-    found, seal = sealed_pieces(pieces_of(number))
+    found, seal = sealed_file(number)
     if found != digits:
         raise Refused(OTHER_BYTES % (store.name, digits))
     keep_seal(store, digits, seal)

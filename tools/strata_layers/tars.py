@@ -110,6 +110,14 @@ def pax_records(data):
         at = end
 
 
+def add_attribute(found, name, value):
+    """Adds an extended attribute to others. The last record counts, and an empty one takes it back."""
+    if value:
+        found[name] = value
+    else:
+        found.pop(name, None)
+
+
 def read_rest(source):
     """Reads what stands behind an archive: it says nothing, but what is packed has its checksum at
     the end."""
@@ -207,8 +215,9 @@ class Tar:
         found = {}
         for keyword, value in pax_records(data):
             attribute = attributes.of_record(keyword, value)
-            if attribute is not None and value:
-                found.setdefault(ATTRIBUTES, {}).setdefault(*attribute)
+            if attribute is not None:
+                # even an empty one, since a header's own attributes stand instead of a global header's
+                add_attribute(found.setdefault(ATTRIBUTES, {}), *attribute)
             elif keyword in (sparse_maps.OFFSET, sparse_maps.NUMBYTES):
                 found.setdefault(sparse_maps.PAIRS, []).append(value)
             elif keyword in KEYWORDS or keyword in sparse_maps.KEYWORDS:

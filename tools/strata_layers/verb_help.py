@@ -37,8 +37,8 @@ HELP = {
             " fsverity digest --out-merkle-tree does, and prints the image's fs-verity digest.",
     "podman": "Makes DIR, which must be new or empty, an additional image store for podman, with one"
               " image of the store; prints the command that mounts its files there, for root or"
-              " `podman unshare`. With --layers it becomes an additional layer store, with a"
-              " mount for each layer.",
+              " `podman unshare`; elsewhere it needs user_allow_other in /etc/fuse.conf. With"
+              " --layers it becomes an additional layer store, with a mount for each layer.",
 }
 
 # no line is wider, as in the help of strata-mount

@@ -132,15 +132,19 @@ def run_config(asked):
         for line in config_lines(config):
             print_line(line)
         return 0
-    print_line(quoted(sandbox_words(store, name, config, asked)))
+    from strata_layers.image_config import RunConfig
+    it = RunConfig(config)
+    words, left_out = sandbox_words(store, name, it, asked), it.no_variables()
+    if left_out is not None:
+        ends.write(left_out + "\n")
+    print_line(quoted(words))
     return 0
 
 
-def sandbox_words(store, name, config, asked):
+def sandbox_words(store, name, it, asked):
     """The words by which bwrap or podman runs an image."""
-    from strata_layers.image_config import RunConfig, bwrap_words, podman_words
+    from strata_layers.image_config import bwrap_words, podman_words
     from strata_layers.image_users import image_user
-    it = RunConfig(config)
     if asked.form == "podman":
         return podman_words(it)
     caller = os.geteuid(), os.getegid()

@@ -4,15 +4,18 @@ import os
 
 from strata_format.refused import one_line
 from strata_layers.store_images import PIN, may_be_stored
+from strata_layers.transports import TRANSPORTS, layout_made
 
-# what images are pulled from
-SOURCES = ("docker://", "oci:")
+# what images are pulled from, or copied from by skopeo before
+SOURCES = "docker://", "oci:", *TRANSPORTS
 
 
 def pulled(source):
     """How what an image is pulled from comes into the store."""
     import shlex
     told = "`strata-layers pull %s NAME` brings it into the store as image:NAME"
+    if source.startswith(TRANSPORTS):
+        return "%s, and %s" % (layout_made(source), told % "oci:LAYOUT:TAG")
     return told % one_line(shlex.quote(source))
 
 
@@ -35,7 +38,7 @@ def hold_split(word, images):
     """Looks whether a word that was split at colons was meant as a whole, where images are
     missing."""
     there = [os.path.lexists(image) for image in images]
-    if word.startswith(SOURCES) and not all(there):
+    if word.startswith(SOURCES) and not there[0]:
         raise OSError(0, "no such file; " + pulled(word), word)
     if len(images) > 1 and not any(there) and may_be_stored(word):
         why = "no such files (colons separate images); for an image of the store say image:%s"

@@ -8,6 +8,8 @@ from strata_mount.device import take_away
 
 NAME = "strata"
 OTHERS_WRITE = 0o022
+SET_ANOTHER = ("; without a login session, set XDG_RUNTIME_DIR to a directory of your own, in which nobody"
+               " else may write")
 FOLDER = os.O_RDONLY | os.O_DIRECTORY | os.O_NOFOLLOW | os.O_CLOEXEC
 
 
@@ -52,7 +54,7 @@ def opened_notes(makes=True):
         is_link = fault.errno in (errno.ELOOP, errno.ENOTDIR)
         what = "is a symbolic link" if is_link else fault.strerror
         where = top if above is None else place
-        other = "; XDG_RUNTIME_DIR names another directory" * (above is None and top != "/run")
+        other = SET_ANOTHER * (above is None and top != "/run")
         raise OSError(0, "%s; shared mounts are noted there%s" % (what, other), where) from None
     finally:
         if above is not None:

@@ -19,6 +19,7 @@ import shutil
 import stat
 
 from strata_format.files import copy_front, write_all
+from strata_format.progress import unheard
 from strata_format.refused import Refused, shown
 from strata_layers.store import pieces_of
 from strata_layers.verity import TREE, seal_of
@@ -126,7 +127,7 @@ class Places:
             os.link("/proc/self/fd/%d" % number, name + "-", dst_dir_fd=self.folder)
             os.rename(name + "-", name, src_dir_fd=self.folder, dst_dir_fd=self.folder)
         except OSError:
-            copy_front(number, file.fileno(), os.fstat(number).st_size)
+            copy_front(number, file.fileno(), os.fstat(number).st_size, unheard)
 
     def keep_image(self, path, number):
         """Gives an image that is whole, and on the disk with its tree, its place."""
