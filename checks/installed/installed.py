@@ -18,7 +18,7 @@ CHECKS = (
 # those that mount
 MOUNTING = (
     programs.alone, programs.lean, programs.links, mounts.typed, mounts.by_fstab, mounts.words, mounts.colons, mounts.stored,
-    mounts.faked, mounts.podman_by_user, mounts.by_user, mounts.for_others,
+    mounts.faked, mounts.podman_by_user, mounts.in_namespace, mounts.by_user, mounts.for_others,
     mounts.dead, mounts.units, traces.debug, traces.stats, traces.progress, faults.images, faults.not_permitted, faults.device,
     faults.kinds, faults.rules, faults.dashes, *strangers.CHECKS, packages.package, packages.beside, packages.archive,
     commands.mounting, commands.readme)

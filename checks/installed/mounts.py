@@ -265,6 +265,29 @@ def podman_by_user(root):
     return "users are sent to podman unshare or to fuse.conf, root isn't"
 
 
+def in_namespace(root):
+    """Root of a user namespace, where the system's root owns /var/lib, has its user's store; what is missing is sought there."""
+    root.needs("setpriv", "unshare")
+    shutil.copytree(os.path.join(ROOT, "demo", "layout"), root.top + "/srv/layout")
+    root.install()
+    other, named = user(root), {"env": dict(os.environ, HOME="/tmp/home")}
+    for place in ("/tmp/home", "/mnt/other"):
+        os.mkdir(place)
+        os.chown(place, OTHER, OTHER)
+    inside, store = (*other, "unshare", "-rm"), "/tmp/home/.local/share/strata"
+    for who, name in ((other, "one:1"), (inside, "two:1")):
+        hold("pull", 0, root.run(*who, "strata-layers", "pull", "oci:/srv/layout", name, **named).status)
+    hold("images", ["one:1", "two:1"], [it.split()[0] for it in root.good(*other, "strata-layers", "images", **named).splitlines()])
+    script = "strata-mount --background one:1 /mnt/other && cat /mnt/other/etc/hostname; umount /mnt/other"
+    hold("a file", "beacon\n", root.good(*inside, "sh", "-c", script, **named))
+    for who in (other, inside):
+        done = root.run(*who, "strata-mount", "image:none", "/mnt/other", **named)
+        hold("a missing image", (1, "strata-mount: none: no such image in %s; `strata-layers pull SOURCE none` brings it there\n" % store),
+             (done.status, done.err))
+    hold("root's store", False, os.path.exists("/var/lib/strata"))
+    return "pulled, mounted and sought in the user's store, inside and outside"
+
+
 def by_user(root):
     """A line with `user`: an unprivileged user mounts and unmounts, by fusermount3."""
     root.needs("fusermount3", "setpriv")
