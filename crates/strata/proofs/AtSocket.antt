@@ -7,7 +7,7 @@ use Rattle.strata_words.specs.CommandLine.{IsLineOf}
 use Rattle.devices.specs.States.{Devices}
 use Rattle.strata.specs.declared.faults.Fault.{Fault}
 use Rattle.strata.specs.Sessions.{status_at}
-use Rattle.strata_images.specs.Images.{AreNotStacked, NamesAsMany, profile_of}
+use Rattle.strata_images.specs.Images.{AreNotStacked, AreReadFor, profile_of}
 use Rattle.strata.specs.Faults.{IsOfImages}
 use Rattle.strata.specs.Ending.{EndsAtSocket, EndsInFault, IsNotBound, IsOfSessions, IsOverWith, IsServedAtSocket}
 use Rattle.strata.proofs.Ended.{begun, whole}
@@ -28,18 +28,18 @@ told_by {A} line images fault s =
     ]
 
 module _ (A : Type 0) (words : List (List ℕ)) (line : Line) (images : List (List ℕ)) (old : Devices) (line_is : IsLineOf words line)
-    (named : NamesAsMany line images) (verb_is : line.verb ≡ Socket) where
+    (read : AreReadFor line images) (verb_is : line.verb ≡ Socket) where
   over_with : (status : ℕ) (fault : Option Fault) → status ≡ status_at fault → IsServedAtSocket A line images fault
       → IsOverWith A words status old old
   over_with status None e s = record {
     fault = None;
     status_is = e;
-    over = whole A words line images Socket old old line_is named verb_is (refl, s);
+    over = whole A words line images Socket old old line_is read verb_is (refl, s);
   }
   over_with status (Some fault) e s = record {
     fault = Some fault;
     status_is = e;
-    over = (told_by {A = A} line images fault s, begun A words line images Socket old old line_is named verb_is fault (refl, inr (inr s)));
+    over = (told_by {A = A} line images fault s, begun A words line images Socket old old line_is read verb_is fault (refl, inr (inr s)));
   }
 
   -- a command whose sessions ended with a status is over with this status
@@ -53,5 +53,5 @@ module _ (A : Type 0) (words : List (List ℕ)) (line : Line) (images : List (Li
       → IfErr r (λ fault. IsOfImages (AreNotStacked (profile_of line) images) fault ⊎ IsNotBound line images fault)
       → IfErr r (λ fault. EndsInFault A words fault old old)
   stopped_there (Ok status) e = e
-  stopped_there (Err fault) (inl e) = begun A words line images Socket old old line_is named verb_is fault (refl, inl e)
-  stopped_there (Err fault) (inr e) = begun A words line images Socket old old line_is named verb_is fault (refl, inr (inl e))
+  stopped_there (Err fault) (inl e) = begun A words line images Socket old old line_is read verb_is fault (refl, inl e)
+  stopped_there (Err fault) (inr e) = begun A words line images Socket old old line_is read verb_is fault (refl, inr (inl e))

@@ -1,7 +1,6 @@
 -- How a command ends, by how its last step ended. `whole` and `begun` join what was done over the images with the arguments that asked for
 -- it; `unread` is the end before that, and no fault has the status 0.
-use Rattle.std.proofs.Common.{◌≡◌, ◌≢◌, ◌≤◌, ◌∙◌, sym, subst, refl, ℕ, inl, inr, List, None, Result, Ok, Err, IfOk, IfErr, OnOk, MatchResult, IsErrAnd, arith, map, vec_len, Vec}
-use Rattle.std.proofs.lemmas.List.{length-map}
+use Rattle.std.proofs.Common.{◌≡◌, ◌≢◌, ◌≤◌, sym, subst, refl, ℕ, inl, inr, List, None, Result, Ok, Err, IfOk, IfErr, OnOk, MatchResult, IsErrAnd, arith}
 use Rattle.serve_loop.specs.declared.stream_fault.StreamFault.{StreamFault}
 use Rattle.serve_loop.specs.declared.stream_fault.StreamFault.TheVariants as stops
 use Rattle.strata_words.specs.declared.options.Line.{Line}
@@ -11,27 +10,22 @@ use Rattle.devices.specs.States.{Devices}
 use Rattle.strata_images.specs.declared.faults.ImagesFault.{ImagesFault}
 use Rattle.strata_images.specs.declared.faults.ImagesFault.TheVariants as faults
 use Rattle.strata_images.specs.Faults.{AreUnread, status_of as images_status}
-use Rattle.strata_images.specs.Images.{NamesAsMany}
+use Rattle.strata_images.specs.Images.{AreReadFor}
 use Rattle.strata.specs.declared.faults.Fault.{Fault}
 use Rattle.strata.specs.declared.faults.Fault.TheVariants.{Usage, RequestsFile, RepliesFile, BalancesFile, Bind, Accept, Images, InSession, Stopped}
 use Rattle.strata.specs.Faults.{status_of, stop_status}
 use Rattle.strata.specs.Ending.{IsDoneOver, IsStoppedOver, IsDone, EndsInFault, IsOverWith}
 
--- as many images as the line names
-pub all_held : {X Z : Type 0} (line : Line) (bytes : X → List ℕ) (images : Vec X Z) → vec_len images ≡ vec_len line.images
-    → NamesAsMany line (map bytes images.items)
-all_held line bytes images e = length-map images.items bytes ∙ sym images.ok.0 ∙ e
-
 -- what the words say, over the images that were read
 module _ (A : Type 0) (words : List (List ℕ)) (line : Line) (images : List (List ℕ)) (verb : Verb) (old new : Devices)
-    (line_is : IsLineOf words line) (named : NamesAsMany line images) (verb_is : line.verb ≡ verb) where
+    (line_is : IsLineOf words line) (read : AreReadFor line images) (verb_is : line.verb ≡ verb) where
   -- a command did it
   pub whole : IsDoneOver A verb line images old new → IsDone A words old new
   whole d = record {
     line = line;
     images = images;
     line_is = line_is;
-    named = named;
+    read = read;
     done = subst (λ v. IsDoneOver A v line images old new) (sym verb_is) d;
   }
 
@@ -45,7 +39,7 @@ module _ (A : Type 0) (words : List (List ℕ)) (line : Line) (images : List (Li
     line = line;
     images = images;
     line_is = line_is;
-    named = named;
+    read = read;
     stopped = subst (λ v. IsStoppedOver A v line images fault old new) (sym verb_is) p;
   })
 

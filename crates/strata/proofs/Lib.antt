@@ -8,3 +8,5 @@ pub mod Statuses
 pub mod Mounts
 pub mod Blames
 pub mod OverFiles
+pub mod Shown
+pub mod Reported

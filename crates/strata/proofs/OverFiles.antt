@@ -23,7 +23,7 @@ use Rattle.strata_images.specs.Images.{asks_attributes, profile_of, reports_trai
 use Rattle.strata_images.proofs.Rules.{reads}
 
 -- with the trailer, if attributes are asked for or trailers reported
-by_trailers : (attributes reports reads : Bool) (source : Source) (a : List ℕ) → reads ≡ attributes
+pub by_trailers : (attributes reports reads : Bool) (source : Source) (a : List ℕ) → reads ≡ attributes
     → WasGathered (if attributes || reports then Read else Left) source a
     → IfShown source (λ b. IsGatheredWithTrailerOf b a ⊎ ((reads ≡ false) × IsGatheredOf b a))
 by_trailers true reports reads source a e g = record { each = λ b v. inl (g.each b v) }

@@ -235,7 +235,7 @@ ends_for_images A words old new e =
         line = off.line;
         images = off.images;
         line_is = off.line_is;
-        named = off.named;
+        read = off.read;
         bad = work_bad A off.line.verb off.line off.images e.fault old new off.stopped three;
       })
     ]

@@ -20,7 +20,7 @@ use Rattle.strata_words.specs.CommandLine.{IsLineOf, IsLineFault}
 use Rattle.strata.specs.declared.faults.Fault.{Fault}
 use Rattle.strata.specs.declared.faults.Fault.TheVariants.{RequestsFile, RepliesFile, BalancesFile, Bind, Accept, InSession, Stopped}
 use Rattle.strata_images.specs.Faults.{AreUnread}
-use Rattle.strata_images.specs.Images.{AreNotStacked, ArePrepared, NamesAsMany, profile_of}
+use Rattle.strata_images.specs.Images.{AreNotStacked, ArePrepared, AreReadFor, profile_of}
 use Rattle.strata_images.specs.Lines.{AreLost, ArePut}
 use Rattle.strata_images.specs.Checking.{AreGood, AreNotGood}
 use Rattle.strata_images.specs.Listing.{IsNotListed, IsStackListed}
@@ -208,7 +208,7 @@ pub record IsDone (A : Type 0) (words : List (List ℕ)) (old new : Devices) : T
   pub line : Line
   pub images : List (List ℕ)
   pub line_is : IsLineOf words line
-  pub named : NamesAsMany line images
+  pub read : AreReadFor line images
   pub done : IsDoneOver A line.verb line images old new
 
 -- the program began what its arguments say, and stopped with a fault
@@ -217,7 +217,7 @@ pub record IsDoneInPart (A : Type 0) (words : List (List ℕ)) (fault : Fault)
   pub line : Line
   pub images : List (List ℕ)
   pub line_is : IsLineOf words line
-  pub named : NamesAsMany line images
+  pub read : AreReadFor line images
   pub stopped : IsStoppedOver A line.verb line images fault old new
 
 -- one of the images in the arguments could not be read, or memory ran out

@@ -20,18 +20,18 @@ use Rattle.strata.specs.Sessions.{ServedSession}
 use Rattle.strata_images.specs.declared.faults.ImagesFault.{ImagesFault}
 use Rattle.strata_images.specs.declared.faults.ImagesFault.TheVariants as faults
 use Rattle.strata_images.specs.Faults.{HasDigestFor, MayBeFarFor}
-use Rattle.strata_images.specs.Images.{NamesAsMany, profile_of}
+use Rattle.strata_images.specs.Images.{AreReadFor, profile_of}
 
 -- there are none or too many, or one of them breaks a rule of the profile
 abbrev pub AreBad : Profile → List (List ℕ) → Type 0
 AreBad profile images = (¬ IsFew (length images)) ⊎ (¬ All (IsSound profile) images)
 
--- the arguments name as many images as these, and they are bad
+-- the arguments name as many images as these, which were read for them, and they are bad
 pub record AreToBlame (words : List (List ℕ)) : Type 0 where
   pub line : Line
   pub images : List (List ℕ)
   pub line_is : IsLineOf words line
-  pub named : NamesAsMany line images
+  pub read : AreReadFor line images
   pub bad : AreBad (profile_of line) images
 
 -- the arguments name an image with this number and a digest for it, and it is not as sealed

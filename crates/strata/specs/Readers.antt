@@ -11,7 +11,7 @@ use Rattle.serve_core.specs.Headline.{bounds}
 use Rattle.serve_loop.specs.declared.done.Done.{Done}
 use Rattle.strata.specs.declared.faults.Fault.{Fault}
 use Rattle.strata_images.specs.Faults.{AreUnread}
-use Rattle.strata_images.specs.Images.{AreNotStacked, ArePrepared, NamesAsMany, profile_of}
+use Rattle.strata_images.specs.Images.{AreNotStacked, ArePrepared, AreReadFor, profile_of}
 use Rattle.strata.specs.Faults.{IsOfImages, out_of_memory, status_of, stop_status}
 use Rattle.strata.specs.Ending.{first_of}
 use Rattle.strata.specs.Ends.{EndStates, readers, unused}
@@ -27,7 +27,7 @@ status_of_end AtEnd = 0
 pub record AreShared (A : Type 0) (line : Line) (left : Option (List ℕ))
     (seats : List (SeatState A)) : Type 0 where
   pub images : List (List ℕ)
-  pub named : NamesAsMany line images
+  pub read : AreReadFor line images
   pub by : Sourced
   pub prepared : ArePrepared line images by
   pub before : Option (Done A)
@@ -39,7 +39,7 @@ pub record AreShared (A : Type 0) (line : Line) (left : Option (List ℕ))
 abbrev pub IsNotShared : Line → Fault → Type 0
 IsNotShared line fault =
     IsOfImages (AreUnread line) fault
-    ⊎ (((images : List (List ℕ)) × NamesAsMany line images
+    ⊎ (((images : List (List ℕ)) × AreReadFor line images
     × IsOfImages (AreNotStacked (profile_of line) images) fault) ⊎ (fault ≡ out_of_memory))
 
 -- readers over a reader with this left served what the line says, and the end reported for them has

@@ -1,6 +1,7 @@
 pub mod Sizes
 pub mod Printed
 pub mod Opened
+pub mod ReadFor
 pub mod Small
 pub mod Rules
 pub mod Listed

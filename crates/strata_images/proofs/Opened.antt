@@ -23,9 +23,9 @@ use Rattle.stack_model.specs.Listing.{Stacked}
 use Rattle.reply_model.specs.Readings.{Sourced, in_memory, sourced}
 use Rattle.strata_images.specs.Images.{AreDataOf, AreEachBy, AreHeldFor, AreHeldWhole, ArePrepared, AreReadWhole, HaveSources, IsDataOf, IsHeldBy, IsImageBy, IsLoadingOf, IsSourceBy, sources_of, stay_in_files, trailers_of}
 
--- the data of an image that is open
-is_data : {F A : Type 0} (trailers : Trailers) (held : HeldImage A) (source : ImageData F A)
-    → IsKeptWith (source_of source) trailers held → IsDataOf trailers (held_bytes held) (source_of source)
+-- what is held of an image that was gathered
+pub is_data : {A : Type 0} (trailers : Trailers) (held : HeldImage A) (source : Source) → IsKeptWith source trailers held
+    → IsDataOf trailers (held_bytes held) source
 is_data trailers (Whole bytes) source h = absurd h
 is_data trailers (Kept kept) source h = h
 
@@ -61,7 +61,7 @@ are_data known trailers (digest ∷ digests) (image ∷ images) all =
     let its = open_by known trailers digest image all.0 in
     let rest = are_data known trailers digests images all.1 in
     subst (λ s. Have trailers (digest ∷ digests) (image ∷ images) (before s (files_of images))) (sym its.over.source_is)
-    ((is_data trailers image.held its.source its.over.kept.1, rest.0), (its.by, rest.1))
+    ((is_data trailers image.held (source_of its.source) its.over.kept.1, rest.0), (its.by, rest.1))
 
 -- the sources of images that stay in their files
 are_sources : {F A : Type 0} (line : Line) (known : F → Option (List ℕ)) (images : List (LoadedImage F A)) (whole : Bool)
@@ -88,7 +88,8 @@ is_whole_of known (Whole bytes) h = refl
 abbrev IsAllBy : {F A : Type 0} → Option Digest → LoadedImage F A → Type 0
 IsAllBy digest image = (is_whole image.held ≡ true) × (image.source ≡ None) × IsImageBy digest (held_bytes image.held)
 
-whole_over : {A : Type 0} (source : Source) (held : HeldImage A) → IsWholeOver source held
+-- all bytes of an image that is read in full are held
+pub whole_over : {A : Type 0} (source : Source) (held : HeldImage A) → IsWholeOver source held
     → (is_whole held ≡ true) × MayGive source 0 (held_bytes held) × IsSizeOf source (length (held_bytes held))
 whole_over source (Kept kept) h = absurd h
 whole_over source (Whole bytes) h = (refl, h.0, h.1)
@@ -235,7 +236,8 @@ held_with : {A : Type 0} (known : Option (List ℕ)) (trailers its : Trailers) (
 held_with known trailers its (Kept kept) h = absurd h
 held_with known trailers its (Whole bytes) h = h
 
-whole_one : {F A : Type 0} (known : F → Option (List ℕ)) (trailers : Trailers) (digest : Option Digest) (image : LoadedImage F A)
+-- an image that is read in full is held
+pub whole_one : {F A : Type 0} (known : F → Option (List ℕ)) (trailers : Trailers) (digest : Option Digest) (image : LoadedImage F A)
     → IsLoadedBy known how.Whole digest image → IsHeldBy known trailers digest image
 whole_one known trailers None image its = record {
   file = its.file;
@@ -248,15 +250,15 @@ gathered_one : {F A : Type 0} (known : F → Option (List ℕ)) (trailers : Trai
 gathered_one known trailers None image its = record { file = its.file; read = its.read.0 }
 gathered_one known trailers (Some digest) image its = inr its
 
--- each image is held as its own loading makes it
-each_held : {F A : Type 0} (known : F → Option (List ℕ)) (trailers : Trailers) (loading : Loading)
-    → ((digest : Option Digest) (image : LoadedImage F A) → IsLoadedBy known loading digest image → IsHeldBy known trailers digest image)
+-- each image is as its own loading makes it
+pub each_loaded : {F A : Type 0} (known : F → Option (List ℕ)) (loading : Loading) (Is : Option Digest → LoadedImage F A → Type 0)
+    → ((digest : Option Digest) (image : LoadedImage F A) → IsLoadedBy known loading digest image → Is digest image)
     → (digests : List (Option Digest)) (images : List (LoadedImage F A)) → AreLoadedBy known loading digests images
-    → AreEachBy (IsHeldBy known trailers) digests images
-each_held known trailers loading one digests [] all = tt
-each_held known trailers loading one [] (image ∷ images) all = absurd all
-each_held known trailers loading one (digest ∷ digests) (image ∷ images) all =
-    (one digest image all.0, each_held known trailers loading one digests images all.1)
+    → AreEachBy Is digests images
+each_loaded known loading Is one digests [] all = tt
+each_loaded known loading Is one [] (image ∷ images) all = absurd all
+each_loaded known loading Is one (digest ∷ digests) (image ∷ images) all =
+    (one digest image all.0, each_loaded known loading Is one digests images all.1)
 
 -- images that are loaded for a line that checks are held for it
 pub loaded_ones : {F A : Type 0} (line : Line) (known : F → Option (List ℕ)) (loading : Loading) (images : List (LoadedImage F A))
@@ -266,10 +268,10 @@ loaded_ones {F} {A} line known loading images is loaded = by_way is.is
   where
     by_way : (AreReadWhole line is.told × (loading ≡ how.Whole)) ⊎ ((AreReadWhole line is.told → ⊥) × (loading ≡ how.Gather (trailers_of line)))
         → AreHeldFor line known images
-    by_way (inl whole) = each_held known (trailers_of line) how.Whole (whole_one known (trailers_of line)) line.digests.items images
-        (subst (λ l. AreLoadedBy known l line.digests.items images) whole.1 loaded)
-    by_way (inr left) = each_held known (trailers_of line) (how.Gather (trailers_of line)) (gathered_one known (trailers_of line))
-        line.digests.items images (subst (λ l. AreLoadedBy known l line.digests.items images) left.1 loaded)
+    by_way (inl whole) = each_loaded known how.Whole (IsHeldBy known (trailers_of line)) (whole_one known (trailers_of line))
+        line.digests.items images (subst (λ l. AreLoadedBy known l line.digests.items images) whole.1 loaded)
+    by_way (inr left) = each_loaded known (how.Gather (trailers_of line)) (IsHeldBy known (trailers_of line))
+        (gathered_one known (trailers_of line)) line.digests.items images (subst (λ l. AreLoadedBy known l line.digests.items images) left.1 loaded)
 
 -- images that are prepared with their files are prepared with all of these, borrowed
 pub seen_as : {F A B : Type 0} (line : Line) (images : List (List ℕ)) (stack : Stacked) (files : Vec (ImageData F A) B)

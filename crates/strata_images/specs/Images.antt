@@ -4,7 +4,7 @@ use Rattle.std.specs.Prelude.{◌≡◌, ◌≤◌, ◌^◌, ◌⊎◌, ◌||◌
 use Rattle.std.specs.declared.vec.Vec.{Vec}
 use Rattle.romfs_format.specs.declared.rule.Profile.{Profile}
 use Rattle.romfs_format.specs.Profiles.{profile_with}
-use Rattle.devices.specs.Sources.{Source, IsSizeOf, MayGive, sealed}
+use Rattle.devices.specs.Sources.{Source, IsSizeOf, MayGive, held, sealed}
 use Rattle.devices.specs.File.{IsFileDigest}
 use Rattle.romfs_seal.specs.Digests.{digest_bytes, made_by, sha}
 use Rattle.romfs_seal.specs.declared.digest.Digest.{Digest}
@@ -109,6 +109,31 @@ AreDataOf trailers (image ∷ images) (source ∷ sources) =
     IsDataOf trailers image source × AreDataOf trailers images sources
 AreDataOf trailers [] (source ∷ sources) = ⊥
 AreDataOf trailers (image ∷ images) [] = ⊥
+
+-- what is held of an image was read from this source, which is under its digest: all bytes, or what
+-- the rules look at. Of a file without a digest nothing is known, and the source is what was read
+abbrev pub IsReadFrom : Trailers → Option Digest → List ℕ → Source → Type 0
+IsReadFrom trailers None image source = source ≡ held image
+IsReadFrom trailers (Some digest) image source =
+    IsSourceBy (Some digest) source
+    × ((MayGive source 0 image × IsSizeOf source (length image))
+    ⊎ WasGathered trailers source image)
+
+-- the same for each image
+abbrev pub AreReadFrom : Trailers → List (Option Digest) → List (List ℕ) → List Source → Type 0
+AreReadFrom trailers digests [] [] = ⊤
+AreReadFrom trailers digests [] (source ∷ sources) = ⊥
+AreReadFrom trailers digests (image ∷ images) [] = ⊥
+AreReadFrom trailers [] (image ∷ images) (source ∷ sources) = ⊥
+AreReadFrom trailers (digest ∷ digests) (image ∷ images) (source ∷ sources) =
+    IsReadFrom trailers digest image source × AreReadFrom trailers digests images sources
+
+-- as many images as a line names were read, each from a source of its own, under the digest in its
+-- place
+pub record AreReadFor (line : Line) (images : List (List ℕ)) : Type 0 where
+  pub as_many : NamesAsMany line images
+  pub sources : List Source
+  pub read : AreReadFrom (trailers_of line) line.digests.items images sources
 
 -- these bytes have the digest, if there is one
 abbrev pub HasDigest : Option Digest → List ℕ → Type 0

@@ -3,7 +3,7 @@
 ghost use Rattle.std.specs.Prelude.{◌≡◌, ◌↔◌, ℕ, List, Option, length, vec_len, IfOk, IfErr, IsTrue};
 ghost use Rattle.strata_words.specs.CommandLine.{IsInLimits};
 ghost use Rattle.strata_images.specs.Faults.{AreUnread};
-ghost use Rattle.strata_images.specs.Images.{AreHeldFor, AreReadWhole, AreSmall, IsLoadingOf, NamesAsMany, HaveSources, are_whole, bytes_of, sources_of, trailers_of};
+ghost use Rattle.strata_images.specs.Images.{AreHeldFor, AreReadFor, AreReadWhole, AreSmall, IsLoadingOf, HaveSources, are_whole, bytes_of, sources_of, trailers_of};
 
 use crate::faults::ImagesFault;
 use crate::profile::asks_attributes;
@@ -41,7 +41,7 @@ where
     R::File: FileExt + Send,
     R::Dir: Send,
     requires { IsInLimits line.now }
-    ensures named { IfOk result (λ images. NamesAsMany line.now (bytes_of images.held)) }
+    ensures read { IfOk result (λ images. AreReadFor line.now (bytes_of images.held)) }
     ensures sources { IfOk result (λ images.
         HaveSources line.now (are_whole images.held) (bytes_of images.held)
         (sources_of images.files)) }

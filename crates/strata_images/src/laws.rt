@@ -17,7 +17,7 @@ ghost use Rattle.stack_prepare.specs.declared.refusal.Refusal.{Refusal};
 ghost use Rattle.stack_prepare.specs.declared.refusal.Refusal.TheVariants as refused;
 ghost use Rattle.stack_prepare.specs.Layers.{AreRefused};
 ghost use Rattle.strata_images.specs.Checking.{AreAccepted};
-ghost use Rattle.strata_images.specs.Images.{AreEachBy, ArePrepared, AreReadWhole, HasDigest, IsImageBy, asks_attributes, profile_of, trailers_of};
+ghost use Rattle.strata_images.specs.Images.{AreEachBy, ArePrepared, AreReadFor, AreReadWhole, HasDigest, IsImageBy, asks_attributes, profile_of, trailers_of};
 
 use std::alloc::Allocator;
 use std::os::unix::fs::FileExt;
@@ -69,13 +69,15 @@ pub fn whole_images_are_judged_as_their_files<F: FileExt, A: Allocator>()
         ↔ IsRefusal (profile_of line) bytes fault) }
 {}
 
-/// Under the digests of a line no other images are served: the images that its sources show have
-/// these digests, each its own; and an image that is read in full is the one with the digest,
-/// unless a read returned, instead of a block, another with its digest.
+/// Under the digests of a line no other images are served, checked or listed: the images that its
+/// sources show have these digests, each its own; and an image that is read in full is the one with
+/// the digest, unless a read returned, instead of a block, another with its digest.
 pub fn images_have_their_digests()
     ensures shown { (line : Line) (kept images : List (List ℕ)) (by : Sourced)
         (p : ArePrepared line kept by) → (AreReadWhole line p.sources.told → ⊥) →
         AreShown by.sources images → AreEachBy HasDigest line.digests.items images }
+    ensures reported { (line : Line) (kept images : List (List ℕ)) (read : AreReadFor line kept) →
+        AreShown read.sources images → AreEachBy HasDigest line.digests.items images }
     ensures read { (digest : Digest) (image bytes : List ℕ) (by : IsImageBy (Some digest) image) →
         Shows (sealed (seal_by digest by.0)) bytes → image ≡ bytes }
 {}

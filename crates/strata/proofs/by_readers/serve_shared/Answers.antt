@@ -25,7 +25,7 @@ returns-clause-served g c =
     let all = shared_with g.I.Read.remaining first over seats c.as_mut_slice.result.now new before c.as_mut_slice.ensures.value served in
     record {
       images = bytes_of c.in_ok-images.images.held;
-      named = c.in_ok-images.ensures.named;
+      read = c.in_ok-images.ensures.read;
       by = by;
       prepared = seen_as c.args.line.now _ c.in_ok-table.table c.in_ok-table.files c.as_slice.result.now c.as_slice.ensures.value
           c.in_ok-table.ensures.ok;

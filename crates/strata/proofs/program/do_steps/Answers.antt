@@ -3,7 +3,8 @@ use Rattle.std.proofs.lemmas.Result.{IfOk-from_err}
 use Rattle.strata.specs.declared.faults.Fault.{Fault}
 use Rattle.strata.specs.declared.faults.Fault.TheVariants.{Images}
 use Rattle.strata_words.specs.CommandLine.{IsLineOf}
-use Rattle.strata.proofs.Ended.{all_held, ended, unread}
+use Rattle.strata_images.proofs.ReadFor.{held_for}
+use Rattle.strata.proofs.Ended.{ended, unread}
 use Rattle.strata.proofs.AtSocket.{over_there, stopped_there}
 use Rattle.strata_words.specs.declared.options.Verb.TheVariants as verbs
 use Rattle.strata.proofs.program.do_steps.Goals as goal
@@ -48,8 +49,8 @@ pub returns-in_ok-images-in-Serve : goal.returns-in_ok-images-in-Serve
 returns-in_ok-images-in-Serve g c =
     let line = c.args.line.now in
     let both = λ (words : List (List ℕ)) (is : IsLineOf words c.args.line.now).
-    let named = c.in_ok-images-in-Serve.ensures.named in
-    ended g.row.A.Denot words line _ verbs.Serve _ _ is named c.in-Serve.is (λ (fault : Fault). fault) c.serve.result c.as_status.result c.as_status.ensures
+    let read = c.in_ok-images-in-Serve.ensures.read in
+    ended g.row.A.Denot words line _ verbs.Serve _ _ is read c.in-Serve.is (λ (fault : Fault). fault) c.serve.result c.as_status.result c.as_status.ensures
     c.serve.ensures.done c.serve.ensures.stopped (λ d. d) (λ fault s. s) in
     record { over = λ words read. (both words read).0; stopped = λ words read. (both words read).1 }
 
@@ -59,21 +60,22 @@ listen-requires-clause-socket g c κs within = c.requires.socket c.in-Socket.is
 pub returns-in_ok-images-in-Socket-clause-over : goal.returns-in_ok-images-in-Socket-clause-over
 returns-in_ok-images-in-Socket-clause-over g c = λ words is.
     let line = c.args.line.now in
-    let named = c.in_ok-images-in-Socket.ensures.named in
-    over_there g.row.A.Denot _ line _ _ is named c.in-Socket.is c.listen.result c.listen.ensures.ended
+    let read = c.in_ok-images-in-Socket.ensures.read in
+    over_there g.row.A.Denot _ line _ _ is read c.in-Socket.is c.listen.result c.listen.ensures.ended
 
 pub returns-in_ok-images-in-Socket-clause-stopped : goal.returns-in_ok-images-in-Socket-clause-stopped
 returns-in_ok-images-in-Socket-clause-stopped g c = λ words is.
     let line = c.args.line.now in
-    let named = c.in_ok-images-in-Socket.ensures.named in
-    stopped_there g.row.A.Denot _ line _ _ is named c.in-Socket.is c.listen.result c.listen.ensures.stopped
+    let read = c.in_ok-images-in-Socket.ensures.read in
+    stopped_there g.row.A.Denot _ line _ _ is read c.in-Socket.is c.listen.result c.listen.ensures.stopped
 
 pub returns-in_ok-images-in-Check : goal.returns-in_ok-images-in-Check
 returns-in_ok-images-in-Check g c =
     let line = c.args.line.now in
     let both = λ (words : List (List ℕ)) (is : IsLineOf words c.args.line.now).
-    let named = all_held line _ c.in_ok-images-in-Check.images c.in_ok-images-in-Check.ensures.ok in
-    ended g.row.A.Denot words line _ verbs.Check _ _ is named c.in-Check.is Images c.check.result
+    let images = c.in_ok-images-in-Check in
+    let read = held_for line g.R.File.Read.remaining images.images images.ensures.ok images.ensures.held in
+    ended g.row.A.Denot words line _ verbs.Check _ _ is read c.in-Check.is Images c.check.result
     c.as_told.result c.as_told.ensures
     c.check.ensures.done c.check.ensures.stopped (λ d. (refl, d)) (λ fault s. (refl, (fault, refl, s))) in
     record { over = λ words read. (both words read).0; stopped = λ words read. (both words read).1 }
@@ -82,8 +84,9 @@ pub returns-in_ok-images-in-List : goal.returns-in_ok-images-in-List
 returns-in_ok-images-in-List g c =
     let line = c.args.line.now in
     let both = λ (words : List (List ℕ)) (is : IsLineOf words c.args.line.now).
-    let named = all_held line _ c.in_ok-images-in-List.images c.in_ok-images-in-List.ensures.ok in
-    ended g.row.A.Denot words line _ verbs.List _ _ is named c.in-List.is Images c.list.result
+    let images = c.in_ok-images-in-List in
+    let read = held_for line g.R.File.Read.remaining images.images images.ensures.ok images.ensures.held in
+    ended g.row.A.Denot words line _ verbs.List _ _ is read c.in-List.is Images c.list.result
     c.as_told-in-List.result c.as_told-in-List.ensures
     c.list.ensures.done c.list.ensures.stopped (λ d. (refl, d)) (λ fault s. (refl, (fault, refl, s))) in
     record { over = λ words read. (both words read).0; stopped = λ words read. (both words read).1 }

@@ -2,15 +2,20 @@ use Rattle.std.proofs.Common.{◌∙◌, sym, subst, arith}
 use Rattle.romfs_files.specs.declared.loaded.Loading.TheVariants as how
 use Rattle.romfs_files.specs.Sealing.{AreLoadedBy}
 use Rattle.strata_images.specs.Images.{IsLoadingOf, trailers_of}
-use Rattle.strata_images.proofs.Opened.{as_many_held, loaded_sources}
+use Rattle.strata_images.proofs.Opened.{loaded_sources}
+use Rattle.strata_images.proofs.ReadFor.{opened_for}
 use Rattle.strata_images.proofs.Unread.{unread_told}
 use Rattle.strata_images.proofs.images.open_all.Goals as goal
 
-pub returns-clause-named : goal.returns-clause-named
-returns-clause-named g c =
+pub returns-clause-read : goal.returns-clause-read
+returns-clause-read g c =
     let images = c.in_ok-images.images in
-    as_many_held images.items c.in_ok-held.held.items c.in_ok-held.files.items c.in_ok-held.ensures ∙ sym images.ok.0
-    ∙ omega (arith, c.in_ok-images.ensures.ok, c.as_slice-paths.ensures.len)
+    opened_for c.args.line.now g.R.File.Read.remaining c.loading_of-loading.result images.items c.in_ok-held.held.items
+    c.in_ok-held.files.items (sym images.ok.0 ∙ omega (arith, c.in_ok-images.ensures.ok, c.as_slice-paths.ensures.len))
+    (subst (λ t. IsLoadingOf c.args.line.now (how.Open t) c.loading_of-loading.result) c.trailers_of.ensures c.loading_of-loading.ensures)
+    (subst (λ ds. AreLoadedBy g.R.File.Read.remaining c.loading_of-loading.result ds images.items) c.as_slice.ensures.value
+    c.in_ok-images.ensures.loaded)
+    c.in_ok-held.ensures
 
 pub returns-clause-sources : goal.returns-clause-sources
 returns-clause-sources g c =
