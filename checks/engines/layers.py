@@ -249,15 +249,20 @@ def check_what_is_waited_for(snapshotter):
     maker.notice()
     waiting.join()
     hold("next", "first", maker.next().name)
-    snapshots.close()
-    os.close(snapshots.places.lock)
+    end(snapshots)
     snapshotter.start()
 
 
-def without_images(snapshotter):
+def without_images(snapshotter, keep=0):
     """The snapshots of a service that was stopped, in this process; no images are made."""
     ImageMaker.start = lambda self: None
-    return Snapshots(Places(snapshotter.root), snapshotter.program, None, 0)
+    return Snapshots(Places(snapshotter.root), snapshotter.program, None, keep)
+
+
+def end(snapshots):
+    """Ends their use in this process."""
+    snapshots.close()
+    os.close(snapshots.places.lock)
 
 
 # --- layers that stand ready ---

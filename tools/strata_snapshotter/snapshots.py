@@ -33,8 +33,8 @@ Mount = collections.namedtuple("Mount", "type source options")
 # the names of snapshots into which layers are unpacked begin so, behind containerd's own front
 UNPACKED = "extract-"
 LABEL_PATH = "labels."
-# so many seconds after a layer was made an image it is mounted, if none has come over it
-AHEAD = 0.05
+# so many seconds after a layer was made an image it is mounted, if none comes over it
+AHEAD = 0.02
 # the label that tells why a layer stays a folder, and the most characters of it: containerd's own
 # labels have at most 4,096 bytes
 FOLDER, WHY_MOST = "strata/folder", 1000
@@ -84,8 +84,8 @@ class Snapshots:
     def __init__(self, held, program, ready, keep):
         self.places, self.ready, self.state = held, ready, State(held.at("state.db"))
         self.mounts_of = ChainMounts(held, program, keep)
-        # held while a layer is mounted ahead
-        self.ahead = threading.Lock()
+        # held while a layer is mounted ahead; the numbers of layers that others are about to lie on
+        self.ahead, self.coming = threading.Lock(), []
         # whether it will be tidied once more, since a mount is kept until then
         self.is_due = False
         # over the state, and over folders as the state has them
@@ -103,6 +103,7 @@ class Snapshots:
         file."""
         with self.ahead, self.lock:
             self.mounts_of.release(self.state.used(True), set())
+            self.mounts_of.close()
             self.state.close()
 
     # --- what is there ---
@@ -138,11 +139,28 @@ class Snapshots:
         ready. `is_wanted` says whether anybody still waits for it."""
         with self.lock:
             parent = self.parent_of(name, parent_name)
-        if kind == Kind.ACTIVE and REFERENCE in labels:
-            self.take_ready(name, parent, labels)
+        with self.coming_over(parent):
+            if kind == Kind.ACTIVE and REFERENCE in labels:
+                self.take_ready(name, parent, labels)
+            if parent is not None and not is_unpacked_to(name):
+                self.maker.wait(parent.id, is_wanted)
+            return self.created(name, parent_name, kind, labels)
+
+    @contextlib.contextmanager
+    def coming_over(self, parent):
+        """Notes that something is about to lie on a snapshot (or None)."""
+        number = None if parent is None else parent.id
+        with self.lock:
+            self.coming.append(number)
+        try:
+            yield
+        finally:
+            with self.lock:
+                self.coming.remove(number)
+
+    def created(self, name, parent_name, kind, labels):
+        """Makes a snapshot, over what its parent's files are in by now; its mounts."""
         is_unpacked = is_unpacked_to(name)
-        if parent is not None and not is_unpacked:
-            self.maker.wait(parent.id, is_wanted)
         while True:
             with self.lock:
                 lowers = self.lowers_on(self.parent_of(name, parent_name), is_unpacked)
@@ -253,7 +271,8 @@ class Snapshots:
                 with self.mounts_of.holding([number]):
                     with self.lock:
                         snapshot = self.state.by_id(number)
-                        is_top = snapshot is not None and not self.state.has_children(snapshot)
+                        is_top = (snapshot is not None and number not in self.coming
+                                  and not self.state.has_children(snapshot))
                     if is_top:
                         self.folder_of(Lower(number, True))
             finally:
