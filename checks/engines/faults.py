@@ -70,17 +70,10 @@ def is_dead(place):
         return True
 
 
-def restart_keeping(snapshotter, seconds, number=signal.SIGTERM):
-    """Starts it anew; it keeps mounts that nothing lies on for so many seconds."""
-    snapshotter.stop(number)
-    snapshotter.words[snapshotter.words.index("--keep") + 1] = seconds
-    snapshotter.start()
-
-
 def check_kept_mounts(snapshotter):
     """With --keep an image is mounted before a container asks for it, and the mount stays when the
     last one goes, but not longer than its layer, than the service, or than is said."""
-    restart_keeping(snapshotter, "1000")
+    snapshotter.restart_keeping("1000")
     snapshotter.layer("one", "", fill)
     place = snapshotter.root + "/mounts/1"
     wait_until("it is mounted ahead", snapshotter.servers)
@@ -101,11 +94,11 @@ def check_kept_mounts(snapshotter):
     snapshotter.view("v", "two")
     snapshotter.call("Remove", key="v")
     hold("servers", 1, len(snapshotter.servers()))
-    restart_keeping(snapshotter, "1", signal.SIGKILL)
+    snapshotter.restart_keeping("1", signal.SIGKILL)
     wait_until("it is unmounted", lambda: not snapshotter.servers())
     hold("snapshots", ["two"], snapshotter.names())
     # while they are mounted ahead, too
-    restart_keeping(snapshotter, "1000")
+    snapshotter.restart_keeping("1000")
     for number in range(8):
         snapshotter.layer("removed", "", fill)
         time.sleep(0.02 * number)
@@ -154,10 +147,10 @@ def check_what_is_mounted_ahead(snapshotter):
     snapshotter.stop()
     snapshots = without_images(snapshotter, 1000)
     one = snapshots.stat("one")
-    with snapshots.coming_over(one):
-        snapshots.mount_unused(one.id)
+    with snapshots.ahead.coming_over(one):
+        snapshots.ahead.mount(one)
         hold("mounts", [], snapshotter.left()[1:])
-    snapshots.mount_unused(one.id)
+    snapshots.ahead.mount(one)
     hold("servers", 1, len(snapshotter.servers()))
     end(snapshots)
     hold("mounts", [], snapshotter.left()[1:])
@@ -174,12 +167,12 @@ def lies_on(snapshotter, key):
 def check_replaced_folders(snapshotter):
     """With --keep what is unpacked lies on a folder that an image has just replaced, and containers
     on the mount. The folder goes with what lies on it, once it is kept no longer."""
-    restart_keeping(snapshotter, "1000")
+    snapshotter.restart_keeping("1000")
     snapshotter.layer("one", "", fill)
     snapshotter.settled("one")
     hold("unpacked", "snapshots", lies_on(snapshotter, "extract-2"))
     hold("a container", "mounts", lies_on(snapshotter, "c"))
-    restart_keeping(snapshotter, "0")
+    snapshotter.restart_keeping("0")
     hold("unpacked later", "mounts", lies_on(snapshotter, "extract-3"))
     folder = snapshotter.root + "/snapshots/1/fs"
     hold("the folder", ["file"], os.listdir(folder))

@@ -1,9 +1,9 @@
 """The mounts of strata: one for each chain of layers, shared by all that lie on it.
 
 strata-mount makes them (launcher.py), by --share: chains of the same images have one server, and so
-has whoever else shares these images with the same options. The server is a process of its own, which goes on
-when this one ends. A mount whose server has ended is unmounted and made anew when it is needed
-again.
+has whoever else shares these images with the same options. The server is a process of its own,
+which goes on when this one ends. A mount whose server has ended is unmounted and made anew when it
+is needed again.
 
 A mount that nothing lies on any more is kept for some seconds: the next container finds it there.
 """
@@ -80,8 +80,8 @@ class ChainMounts:
         return place
 
     def show(self, images, digests, place):
-        """Shows images, the lowest first, at a place, under their digests as far as these are known.
-        Unavailable with strata's own line where that can't be."""
+        """Shows images, the lowest first, at a place, under their digests as far as these are
+        known. Unavailable with strata's own line where that can't be."""
         words = ["--share", "-o", WORDS, "--strata", self.program, *digest_words(digests)]
         status, said = self.launcher.run([*words, *images, place])
         # what an earlier snapshotter has begun may have come first

@@ -1,5 +1,5 @@
-"""Runs strata-mount in processes that are forked from one which has its modules loaded: Python takes
-longer to start than the rest of a mount.
+"""Runs strata-mount in processes that are forked from one which has its modules loaded: Python
+takes longer to start than the rest of a mount.
 
 That process (launched.py) is started at once, and again where it was killed.
 
