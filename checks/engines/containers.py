@@ -14,7 +14,6 @@ import time
 import grpc
 
 from checks.engines import cri, images
-from checks.engines.faults import restart_keeping
 from checks.engines.layers import (
     FOLDER, REFERENCE, TOLD, chain_digests, run_layers, without_links)
 from checks.engines.machine import HOST, wait_until
@@ -411,9 +410,9 @@ def check_random_kills(machine, count=8):
 def check_hundreds_of_kills(machine):
     """The same at length, over mounts that are made ahead and kept for a while. STRATA_KILLS says
     how many."""
-    restart_keeping(machine.snapshotter, "2")
+    machine.snapshotter.restart_keeping("2")
     check_random_kills(machine, int(os.environ.get("STRATA_KILLS", "300")))
-    restart_keeping(machine.snapshotter, "0")
+    machine.snapshotter.restart_keeping("0")
 
 
 CHECKS = (check_the_same_trees, check_folders_are_told, check_images_as_layers, check_one_mount, check_many_at_once,

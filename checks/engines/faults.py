@@ -1,5 +1,6 @@
 """Checks of what goes wrong: a snapshotter that is killed, mounts that are gone, a full disk, a
 damaged database, removals while images are made, many calls at once."""
+import glob
 import os
 import random
 import signal
@@ -8,7 +9,7 @@ import subprocess
 import threading
 import time
 
-from checks.engines.layers import kind_of, put
+from checks.engines.layers import end, kind_of, put, without_images
 from checks.engines.snapshotters import Snapshotter
 from checks.shared.mounting import SECONDS, Failed, hold, places, wait_until
 from strata_snapshotter import sockets
@@ -69,17 +70,10 @@ def is_dead(place):
         return True
 
 
-def restart_keeping(snapshotter, seconds, number=signal.SIGTERM):
-    """Starts it anew; it keeps mounts that nothing lies on for so many seconds."""
-    snapshotter.stop(number)
-    snapshotter.words[snapshotter.words.index("--keep") + 1] = seconds
-    snapshotter.start()
-
-
 def check_kept_mounts(snapshotter):
     """With --keep an image is mounted before a container asks for it, and the mount stays when the
     last one goes, but not longer than its layer, than the service, or than is said."""
-    restart_keeping(snapshotter, "1000")
+    snapshotter.restart_keeping("1000")
     snapshotter.layer("one", "", fill)
     place = snapshotter.root + "/mounts/1"
     wait_until("it is mounted ahead", snapshotter.servers)
@@ -100,16 +94,67 @@ def check_kept_mounts(snapshotter):
     snapshotter.view("v", "two")
     snapshotter.call("Remove", key="v")
     hold("servers", 1, len(snapshotter.servers()))
-    restart_keeping(snapshotter, "1", signal.SIGKILL)
+    snapshotter.restart_keeping("1", signal.SIGKILL)
     wait_until("it is unmounted", lambda: not snapshotter.servers())
     hold("snapshots", ["two"], snapshotter.names())
     # while they are mounted ahead, too
-    restart_keeping(snapshotter, "1000")
+    snapshotter.restart_keeping("1000")
     for number in range(8):
         snapshotter.layer("removed", "", fill)
         time.sleep(0.02 * number)
         snapshotter.call("Remove", key="removed")
     wait_until("nothing is left", lambda: snapshotter.left() == ["snapshots/4"])
+
+
+def launchers(snapshotter):
+    """The processes of the service that start mounts."""
+    found = []
+    for path in glob.glob("/proc/%d/task/*/children" % snapshotter.process.pid):
+        with open(path, encoding="ascii") as numbers:
+            found += map(int, numbers.read().split())
+    return found
+
+
+def kill_launcher(snapshotter):
+    os.kill(*launchers(snapshotter), signal.SIGKILL)
+
+
+def check_the_launcher_killed(snapshotter):
+    """The process that starts mounts is killed before and while it does: there is a new one, and the
+    mount is made."""
+    snapshotter.layer("one", "", fill)
+    for number in range(6):
+        # the first one may have found that the process was killed, and started it again
+        for killing in (None, threading.Timer(0.003 * number, kill_launcher, (snapshotter,))):
+            if killing is not None:
+                killing.start()
+            hold("the layer", ["file"], os.listdir(snapshotter.view("v", "one")))
+            snapshotter.call("Remove", key="v")
+            wait_until("no server", lambda: not snapshotter.servers())
+        killing.join()
+    kill_launcher(snapshotter)
+    hold("the layer", ["file"], os.listdir(snapshotter.view("v", "one")))
+    hold("launchers", 1, len(launchers(snapshotter)))
+    snapshotter.stop(signal.SIGKILL)
+    snapshotter.start()
+    hold("launchers", 1, len(launchers(snapshotter)))
+
+
+def check_what_is_mounted_ahead(snapshotter):
+    """A layer on which another one is about to lie is not mounted ahead."""
+    snapshotter.layer("one", "", fill)
+    snapshotter.settled("one")
+    snapshotter.stop()
+    snapshots = without_images(snapshotter, 1000)
+    one = snapshots.stat("one")
+    with snapshots.ahead.coming_over(one):
+        snapshots.ahead.mount(one)
+        hold("mounts", [], snapshotter.left()[1:])
+    snapshots.ahead.mount(one)
+    hold("servers", 1, len(snapshotter.servers()))
+    end(snapshots)
+    hold("mounts", [], snapshotter.left()[1:])
+    snapshotter.start()
 
 
 def lies_on(snapshotter, key):
@@ -122,12 +167,12 @@ def lies_on(snapshotter, key):
 def check_replaced_folders(snapshotter):
     """With --keep what is unpacked lies on a folder that an image has just replaced, and containers
     on the mount. The folder goes with what lies on it, once it is kept no longer."""
-    restart_keeping(snapshotter, "1000")
+    snapshotter.restart_keeping("1000")
     snapshotter.layer("one", "", fill)
     snapshotter.settled("one")
     hold("unpacked", "snapshots", lies_on(snapshotter, "extract-2"))
     hold("a container", "mounts", lies_on(snapshotter, "c"))
-    restart_keeping(snapshotter, "0")
+    snapshotter.restart_keeping("0")
     hold("unpacked later", "mounts", lies_on(snapshotter, "extract-3"))
     folder = snapshotter.root + "/snapshots/1/fs"
     hold("the folder", ["file"], os.listdir(folder))
@@ -367,9 +412,7 @@ def check_greetings(snapshotter):
 
 
 CHECKS = (check_killed_and_restarted, check_mounts_that_are_gone, check_kept_mounts,
-          check_replaced_folders,
-          check_what_a_killed_one_left,
-          check_random_kills,
-          check_refused_roots, check_removed_while_it_is_made, check_removed_while_it_is_committed,
+          check_the_launcher_killed, check_what_is_mounted_ahead, check_replaced_folders,
+          check_what_a_killed_one_left, check_random_kills, check_refused_roots, check_removed_while_it_is_made, check_removed_while_it_is_committed,
           check_many_at_once, check_a_full_disk, check_the_socket_of_systemd,
           check_greetings)

@@ -54,6 +54,9 @@ nothing() { if "$@" | grep .; then return 1; fi; }
 sleep 1
 findmnt -t fuse.strata
 pgrep -a strata
+journalctl --no-pager -n 3 -u strata-snapshotter
+du -sh /var/lib/strata-snapshotter/snapshots/*
+strata-layers convert --tar --compress gzip image:1 app-strata:1
 works before
 systemctl restart strata-snapshotter
 works restarted
@@ -85,10 +88,12 @@ END = "END OF THE PAGE"
 # so many lines of one that failed are shown
 LINES = 60
 CONFIGURED = """
-mkdir -p /etc/containerd
-cat > /etc/containerd/config.toml <<'EOF'
+grep '^version = 2$' /etc/containerd/config.toml
+cat >> /etc/containerd/config.toml <<'EOF'
 %sEOF
 """
+# the line of the page's file that Debian's own has, too
+VERSION = "version = 2\n"
 # what makes an image a system extension
 RELEASE = "usr/lib/extension-release.d/extension-release.app"
 
@@ -105,7 +110,7 @@ def script():
     for title in ("Install", "Configure", "Run"):
         for kind, text in found[title]:
             if kind == "toml":
-                text = CONFIGURED % text
+                text = CONFIGURED % text.replace(VERSION, "", 1)
             parts += lines_for(text)
     (_, extension), = blocks(OTHERS)["System extensions"]
     return "\n".join([*parts, MORE % {"image": IMAGE, "extension": extension, "end": END}])

@@ -17,6 +17,7 @@ from strata_snapshotter.snapshots import Snapshots
 from strata_snapshotter.state import Form, Kind
 
 REFERENCE, BLOB = "containerd.io/snapshot.ref", "containerd.io/snapshot/cri.layer-digest"
+LAYERS = "containerd.io/snapshot/cri.image-layers"
 # what tells that a layer stays a folder, and why: a label, and a line of the log
 FOLDER, TOLD = "strata/folder", "strata-snapshotter: %s stays a folder, with all above it: %s"
 # which of the facts of checks/registry/tree.py tells how many names a file has
@@ -249,15 +250,20 @@ def check_what_is_waited_for(snapshotter):
     maker.notice()
     waiting.join()
     hold("next", "first", maker.next().name)
-    snapshots.close()
-    os.close(snapshots.places.lock)
+    end(snapshots)
     snapshotter.start()
 
 
-def without_images(snapshotter):
+def without_images(snapshotter, keep=0):
     """The snapshots of a service that was stopped, in this process; no images are made."""
     ImageMaker.start = lambda self: None
-    return Snapshots(Places(snapshotter.root), snapshotter.program, None, 0)
+    return Snapshots(Places(snapshotter.root), snapshotter.program, None, keep)
+
+
+def end(snapshots):
+    """Ends their use in this process."""
+    snapshots.close()
+    os.close(snapshots.places.lock)
 
 
 # --- layers that stand ready ---
@@ -292,6 +298,23 @@ def hold_ready(snapshotter, blobs, wanted=None):
     hold("paths", [".", "a", "a/two"], sorted(tree(snapshotter.view("v", parent))))
     snapshotter.call("Remove", key="v")
     snapshotter.remove_all()
+
+
+def check_the_highest_layer(snapshotter):
+    """A client that says which layers come over one finds the highest mounted when its pull ends,
+    and no other one."""
+    snapshotter.restart_keeping("1000")
+    pulled(snapshotter, archives())
+    parent, digests = "", [made.digest(it) for it in archives()]
+    for at, chain in enumerate(chain_digests(digests)):
+        labels = {REFERENCE: chain, BLOB: digests[at], LAYERS: ",".join(digests[at:])}
+        snapshotter.fails("ALREADY_EXISTS", "Prepare", key="extract-" + chain, parent=parent,
+                          labels=labels)
+        parent = snapshotter.names('labels."%s"==%s' % (REFERENCE, chain))[0]
+    hold("mounts", ["2"], os.listdir(snapshotter.root + "/mounts"))
+    hold("servers", 1, len(snapshotter.servers()))
+    hold("paths", [".", "a", "a/two"], sorted(tree(snapshotter.view("v", parent))))
+    hold("servers", 1, len(snapshotter.servers()))
 
 
 def run_layers(*words):
@@ -466,5 +489,5 @@ def check_sealed_images(snapshotter):
 CHECKS = (check_sealed_images, check_a_tree, check_whiteouts_of_all_forms, check_extended_attributes,
           check_what_images_do_not_hold,
           check_many_layers, check_what_is_waited_for,
-          check_layers_of_a_store, check_shared_servers, check_blobs_at_hand,
+          check_layers_of_a_store, check_the_highest_layer, check_shared_servers, check_blobs_at_hand,
           check_blobs_that_are_images, check_lying_labels, check_given_images)

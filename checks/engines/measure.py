@@ -17,6 +17,7 @@ import time
 
 from checks import ROOT
 from checks.engines import cri, images
+from checks.engines.faults import launchers
 from checks.engines.groups import enter_group, processor_time
 from checks.engines.layers import run_layers
 from checks.engines.machine import HOST, wait_until
@@ -117,7 +118,7 @@ class Strata(Compared):
 
     def memory(self):
         found = self.machine.snapshotter
-        return sum(map(resident, [*found.servers(), found.process.pid]))
+        return sum(map(resident, [*found.servers(), found.process.pid, *launchers(found)]))
 
 
 class Stargz(Compared):

@@ -74,6 +74,12 @@ class Snapshotter:
         self.process.send_signal(number)
         return self.process.wait()
 
+    def restart_keeping(self, seconds, number=signal.SIGTERM):
+        """Starts it anew; it keeps mounts that nothing lies on for so many seconds."""
+        self.stop(number)
+        self.words[self.words.index(KEEP[0]) + 1] = seconds
+        self.start()
+
     def refused(self):
         """The status and the lines of one that must not start."""
         done = subprocess.run(self.words, stdin=subprocess.DEVNULL, stdout=subprocess.PIPE,

@@ -1,29 +1,24 @@
 """The mounts of strata: one for each chain of layers, shared by all that lie on it.
 
-strata-mount makes them, by --share: chains of the same images have one server, and so has whoever
-else shares these images with the same options. The server is a process of its own, which goes on
-when this one ends. A mount whose server has ended is unmounted and made anew when it is needed
-again.
+strata-mount makes them (launcher.py), by --share: chains of the same images have one server, and so
+has whoever else shares these images with the same options. The server is a process of its own,
+which goes on when this one ends. A mount whose server has ended is unmounted and made anew when it
+is needed again.
 
 A mount that nothing lies on any more is kept for some seconds: the next container finds it there.
 """
 import collections
 import contextlib
 import os
-import subprocess
-import sys
 import threading
 import time
 
-from strata_format.version import TOP
 from strata_mount.device import answers, take_away
 from strata_mount.mount_table import mounts
 from strata_mount.options import NOT_SEALED
 from strata_snapshotter.faults import Unavailable
+from strata_snapshotter.launcher import Launcher
 
-# as strata-mount is called, from the folder of its modules
-MOUNT = ("import sys; sys.path.insert(0, sys.argv.pop(1)); from strata_mount.command import main; "
-         "sys.exit(main(sys.argv[1:], 'strata-mount'))")
 # fixed, so that whoever says the same shares the server: as many readers as most machines can use
 WORDS = "suid,dev,allow_other,modeless,readers=4"
 
@@ -32,19 +27,6 @@ def digest_words(digests):
     """The words that name the digests of images, where one is known."""
     known = [it or NOT_SEALED for it in digests] if any(digests) else []
     return [word for it in known for word in ("--digest", it)]
-
-
-def mount_chain(program, images, digests, place):
-    """Shows images, the lowest first, at a place, under their digests as far as these are known.
-    Unavailable with strata's own line where that can't be."""
-    words = [sys.executable, "-IBS", "-c", MOUNT, TOP, "--share", "-o", WORDS, "--strata", program,
-             *digest_words(digests), *images, place]
-    done = subprocess.run(words, stdin=subprocess.DEVNULL, stdout=subprocess.DEVNULL,
-                          stderr=subprocess.PIPE, cwd="/", env={}, start_new_session=True)
-    # what an earlier snapshotter has begun may have come first
-    if done.returncode != 0 and not is_served(place):
-        said = done.stderr.decode(errors="replace").strip() or done.returncode
-        raise Unavailable("strata doesn't serve %s: %s" % (images[-1], said))
 
 
 def is_served(place):
@@ -61,12 +43,16 @@ class ChainMounts:
     """The mounts of a snapshotter, by the number of the highest layer of each."""
 
     def __init__(self, places, program, keep):
-        self.places, self.program = places, program
+        self.places, self.program, self.launcher = places, program, Launcher()
         # so many seconds a mount is kept that nothing lies on, and since when each is
         self.keep, self.unused = keep, {}
         self.lock = threading.Lock()
         # who is about to use a mount holds it: until then nothing says that it is used
         self.held, self.locks = collections.Counter(), collections.defaultdict(threading.Lock)
+
+    def close(self):
+        """Ends the use of mounts, which stay."""
+        self.launcher.close()
 
     @contextlib.contextmanager
     def holding(self, layers):
@@ -90,8 +76,17 @@ class ChainMounts:
                 os.mkdir(place, 0o700)
             if not is_served(place):
                 clear(place)
-                mount_chain(self.program, images, digests, place)
+                self.show(images, digests, place)
         return place
+
+    def show(self, images, digests, place):
+        """Shows images, the lowest first, at a place, under their digests as far as these are
+        known. Unavailable with strata's own line where that can't be."""
+        words = ["--share", "-o", WORDS, "--strata", self.program, *digest_words(digests)]
+        status, said = self.launcher.run([*words, *images, place])
+        # what an earlier snapshotter has begun may have come first
+        if status != 0 and not is_served(place):
+            raise Unavailable("strata doesn't serve %s: %s" % (images[-1], said or status))
 
     def release(self, used, kept):
         """Unmounts the mounts of all layers but those that are used or held, and those of layers

@@ -163,7 +163,7 @@ class ImageMaker:
                               places.usage(self.places.image(snapshot.id)), digest)
         self.snapshots.spare.add(snapshot.id)
         self.snapshots.replaced[snapshot.id] = time.monotonic()
-        self.snapshots.mount_ahead(snapshot.id)
+        self.snapshots.ahead.begin(snapshot.id)
 
     # --- layers that are given as images ---
 
@@ -202,4 +202,4 @@ class ImageMaker:
             self.state.settle(snapshot.id, Form.IMAGE,
                               places.usage(self.places.image(snapshot.id)), digest)
         self.snapshots.spare.add(snapshot.id)
-        self.snapshots.mount_ahead(snapshot.id)
+        self.snapshots.ahead.begin(snapshot.id)

@@ -2,7 +2,7 @@
 as a blob in containerd's content store.
 
 A client that unpacks an image says which chain of layers a snapshot will end, and CRI and others
-say the digest of the layer's blob, too.
+say the digests of the layer's blob and of those above it, too.
 """
 import logging
 import os
@@ -14,6 +14,7 @@ from strata_snapshotter.given_image import hold_image
 
 REFERENCE = "containerd.io/snapshot.ref"
 BLOB = "containerd.io/snapshot/cri.layer-digest"
+LAYERS = "containerd.io/snapshot/cri.image-layers"
 
 
 def chain_of(snapshot):
@@ -21,6 +22,12 @@ def chain_of(snapshot):
     names such a snapshot by it."""
     said = snapshot.labels.get(REFERENCE, snapshot.name.rpartition("/")[2])
     return said if is_digest(said) else None
+
+
+def is_highest(labels):
+    """Whether no layer of the image comes over that for which a snapshot is prepared; None if that
+    is not said. What is said are the digests of its blob and of all above it."""
+    return None if LAYERS not in labels else "," not in labels[LAYERS]
 
 
 class ReadyLayers:

@@ -12,20 +12,20 @@ lies on are removed.
 import collections
 import contextlib
 import itertools
-import logging
 import os
-import sqlite3
 import threading
 import time
 
 from strata_snapshotter import places
+from strata_snapshotter.ahead import Ahead
+from strata_snapshotter.background import begin_after, told_as_warning
 from strata_snapshotter.chain_mounts import ChainMounts
 from strata_snapshotter.faults import (
-    AlreadyExists, FailedPrecondition, Fault, InvalidArgument, NotFound)
+    AlreadyExists, FailedPrecondition, InvalidArgument, NotFound)
 from strata_snapshotter.filters import any_of
 from strata_snapshotter.given_image import given_image
 from strata_snapshotter.image_maker import LAYERS_MOST, ImageMaker, tell_folder
-from strata_snapshotter.ready_layers import REFERENCE
+from strata_snapshotter.ready_layers import REFERENCE, is_highest
 from strata_snapshotter.state import Form, Kind, Lower, State
 
 # a mount as containerd makes it: its type, source, and options
@@ -33,8 +33,6 @@ Mount = collections.namedtuple("Mount", "type source options")
 # the names of snapshots into which layers are unpacked begin so, behind containerd's own front
 UNPACKED = "extract-"
 LABEL_PATH = "labels."
-# so many seconds after a layer was made an image it is mounted, if none has come over it
-AHEAD = 0.05
 # the label that tells why a layer stays a folder, and the most characters of it: containerd's own
 # labels have at most 4,096 bytes
 FOLDER, WHY_MOST = "strata/folder", 1000
@@ -61,31 +59,13 @@ def field_of(snapshot, path):
     return fields.get(path[0])
 
 
-def begin_after(seconds, function, *words):
-    """Calls a function in a thread of its own after so many seconds."""
-    timer = threading.Timer(seconds, function, words)
-    timer.daemon = True
-    timer.start()
-
-
-@contextlib.contextmanager
-def told_as_warning(what, *kinds):
-    """Logs faults of what nobody waits for, which ends with them: those of these kinds, or all that
-    calls have."""
-    try:
-        yield
-    except kinds or (Fault, OSError, sqlite3.Error) as fault:
-        logging.warning("%s: %s", what, fault)
-
-
 class Snapshots:
     """All snapshots of a root; every call may come from any thread."""
 
     def __init__(self, held, program, ready, keep):
         self.places, self.ready, self.state = held, ready, State(held.at("state.db"))
         self.mounts_of = ChainMounts(held, program, keep)
-        # held while a layer is mounted ahead
-        self.ahead = threading.Lock()
+        self.ahead = Ahead(self)
         # whether it will be tidied once more, since a mount is kept until then
         self.is_due = False
         # over the state, and over folders as the state has them
@@ -101,8 +81,9 @@ class Snapshots:
     def close(self):
         """Unmounts what is only kept, and ends the use of the state, so that it stands in one
         file."""
-        with self.ahead, self.lock:
+        with self.ahead.lock, self.lock:
             self.mounts_of.release(self.state.used(True), set())
+            self.mounts_of.close()
             self.state.close()
 
     # --- what is there ---
@@ -138,11 +119,16 @@ class Snapshots:
         ready. `is_wanted` says whether anybody still waits for it."""
         with self.lock:
             parent = self.parent_of(name, parent_name)
-        if kind == Kind.ACTIVE and REFERENCE in labels:
-            self.take_ready(name, parent, labels)
+        with self.ahead.coming_over(parent):
+            if kind == Kind.ACTIVE and REFERENCE in labels:
+                self.take_ready(name, parent, labels)
+            if parent is not None and not is_unpacked_to(name):
+                self.maker.wait(parent.id, is_wanted)
+            return self.created(name, parent_name, kind, labels)
+
+    def created(self, name, parent_name, kind, labels):
+        """Makes a snapshot, over what its parent's files are in by now; its mounts."""
         is_unpacked = is_unpacked_to(name)
-        if parent is not None and not is_unpacked:
-            self.maker.wait(parent.id, is_wanted)
         while True:
             with self.lock:
                 lowers = self.lowers_on(self.parent_of(name, parent_name), is_unpacked)
@@ -209,6 +195,10 @@ class Snapshots:
             is_there = self.state.ready(parent, REFERENCE, chain) is not None
         if not is_there and not self.commit_ready(name, parent, labels):
             return
+        if is_highest(labels):
+            with self.lock:
+                found = self.state.ready(parent, REFERENCE, chain)
+            self.ahead.mount(found)
         raise AlreadyExists("target snapshot %s: already exists" % chain)
 
     def commit_ready(self, name, parent, labels):
@@ -236,29 +226,9 @@ class Snapshots:
                     self.places.keep_image(path, number)
                     self.state.settle(number, Form.IMAGE,
                                       places.usage(self.places.image(number)), digest)
-                    self.mount_ahead(number)
+                    if is_highest(labels) is None:
+                        self.ahead.begin(number)
         return True
-
-    # --- ahead of the first container ---
-
-    def mount_ahead(self, number):
-        """Begins to mount a layer that is an image now with all below it, unless another one comes
-        over it: a container will lie on it soon, or it is unmounted as one that nothing lies on."""
-        if self.mounts_of.keep > 0:
-            begin_after(AHEAD, self.mount_unused, number)
-
-    def mount_unused(self, number):
-        with self.ahead, told_as_warning("layer %d is not mounted ahead" % number):
-            try:
-                with self.mounts_of.holding([number]):
-                    with self.lock:
-                        snapshot = self.state.by_id(number)
-                        is_top = snapshot is not None and not self.state.has_children(snapshot)
-                    if is_top:
-                        self.folder_of(Lower(number, True))
-            finally:
-                # the layer may have been removed meanwhile
-                self.tidy()
 
     # --- Mounts ---
 
