@@ -106,7 +106,7 @@ def marked(room):
     mark(root + "/etc", DEFAULT, CLOSED)
     put(root, "home/notes", b"notes", 0o644, user__a=b"", user__ab=b"1", user__large=bytes(range(256)) * 12, trusted__x=b"y")
     put(root, "home/plain", b"plain")
-    put(root, "etc/labeled", b"labeled", 0o644, security__selinux=LABELED)
+    put(root, "home/labeled", b"labeled", 0o644, security__selinux=LABELED)
     for number in range(30):
         put(root, "many/f%02d" % number, b"%d" % number, user__kind=b"one of many")
     os.symlink("notes", root + "/home/link")
@@ -148,7 +148,7 @@ def extended(room):
     need_root(room)
     root = marked(room)
     wanted = every(root)
-    hold("a folder's", ({CAPABILITY: RAW}, {LABEL: LABELED}), (wanted["bin/ping4"], wanted["etc/labeled"]))
+    hold("a folder's", ({CAPABILITY: RAW}, {LABEL: LABELED}), (wanted["bin/ping4"], wanted["home/labeled"]))
     mount = room.mount([image_of(room, root)], *ALL)
     got = every(mount.at)
     hold("paths", sorted(wanted), sorted(got))
@@ -357,7 +357,7 @@ def copied_up(room):
     top, at = overlay_with_attributes(room, mount)
     try:
         hold("below", wanted, every(at))
-        for name in ("home/notes", "etc/closed", "many/f00"):
+        for name in ("home/notes", "home/labeled", "etc/closed", "many/f00"):
             with open(os.path.join(at, name), "ab") as out:
                 out.write(b" more")
         hold("data", b"secret more", read(at + "/etc/closed"))
@@ -367,7 +367,7 @@ def copied_up(room):
     finally:
         unmount(at, top)
     mount.end()
-    return "%d paths in an overlay, three of them copied up with theirs" % len(wanted)
+    return "%d paths in an overlay, four of them copied up with theirs" % len(wanted)
 
 
 def without_acls(room):
