@@ -25,8 +25,8 @@ import tempfile
 
 from checks import TOOLS
 from checks.mounts.mounted_attributes import overlay_over
-from checks.mounts.mounted_xattrs import (ACCESS, CAPABILITY, CLOSED, COPIES, DEFAULT, LOOKS, RAW, found, image_of, lines,
-                                          said, unmount)
+from checks.mounts.mounted_xattrs import (ACCESS, CAPABILITY, CLOSED, COPIES, DEFAULT, LABEL, LOOKS, RAW, found, image_of,
+                                          lines, said, unmount)
 from checks.shared.layer_files import images_in, layout_of
 from checks.shared.mounting import Failed, Room, adopt, end_children, enter, hold, places
 from strata_format.system import called, libc
@@ -34,7 +34,6 @@ from strata_format.system import called, libc
 Facts = collections.namedtuple("Facts", "mode owner time size device body name attributes")
 TAR = ("tar", "--format=pax", "--xattrs", "--xattrs-include=*", "--acls", "--numeric-owner", "--sort=name", "-c", "-f")
 SHOWN = ("-o", "suid,allow_other,modeless")
-LABEL = "security.selinux"
 USER = 1000
 MNT_DETACH = 2
 # of the folder's regular files and directories each so many is marked

@@ -19,6 +19,8 @@ from strata_format.system import called, libc
 from strata_mount import acls
 
 ACCESS, DEFAULT, CAPABILITY = "system.posix_acl_access", "system.posix_acl_default", "security.capability"
+# a label as setfiles(8) writes it, with its zero byte
+LABEL, LABELED = "security.selinux", b"system_u:object_r:etc_t:s0\0"
 # capability(7): CAP_NET_RAW, permitted and effective, of revision 2 (linux/capability.h)
 NET_RAW = 1 << 13
 RAW = struct.pack("<5I", 0x02000001, NET_RAW, 0, 0, 0)
@@ -104,6 +106,7 @@ def marked(room):
     mark(root + "/etc", DEFAULT, CLOSED)
     put(root, "home/notes", b"notes", 0o644, user__a=b"", user__ab=b"1", user__large=bytes(range(256)) * 12, trusted__x=b"y")
     put(root, "home/plain", b"plain")
+    put(root, "home/labeled", b"labeled", 0o644, security__selinux=LABELED)
     for number in range(30):
         put(root, "many/f%02d" % number, b"%d" % number, user__kind=b"one of many")
     os.symlink("notes", root + "/home/link")
@@ -145,7 +148,7 @@ def extended(room):
     need_root(room)
     root = marked(room)
     wanted = every(root)
-    hold("a folder's", {CAPABILITY: RAW}, wanted["bin/ping4"])
+    hold("a folder's", ({CAPABILITY: RAW}, {LABEL: LABELED}), (wanted["bin/ping4"], wanted["home/labeled"]))
     mount = room.mount([image_of(room, root)], *ALL)
     got = every(mount.at)
     hold("paths", sorted(wanted), sorted(got))
@@ -173,14 +176,16 @@ def extended(room):
 
 
 def stacked_extended(room):
-    """Of a folder that several layers have, the upper one's alone; a stack without any has no such calls at all."""
+    """Of a folder that several layers have, the upper one's alone; a file's label as GNU tar writes it; a stack without any has no
+    such calls at all."""
     need_root(room)
     lower = archive([directory("d", pax_headers={"SCHILY.xattr.user.low": "1", "SCHILY.xattr.user.both": "1"}),
-                     entry("d/f", b"1", pax_headers={"SCHILY.xattr.user.low": "1"}), entry("plain", b"1")])
+                     entry("d/f", b"1", pax_headers={"SCHILY.xattr.user.low": "1", "RHT." + LABEL: LABELED.decode()}),
+                     entry("plain", b"1")])
     upper = archive([directory("d", pax_headers={"SCHILY.xattr.user.both": "2"}), entry("d/g", b"2")])
     mount = room.mount(layers_of(room, lower, upper))
     hold("a folder of both", {"user.both": b"2"}, found(mount.path(b"d")))
-    hold("a file below", {"user.low": b"1"}, found(mount.path(b"d/f")))
+    hold("a file below, with its label", {"user.low": b"1", LABEL: LABELED}, found(mount.path(b"d/f")))
     hold("without any", ({}, {}), (found(mount.path(b"plain")), found(mount.path(b"d/g"))))
     mount.end()
     mount = room.mount(layers_of(room, archive([entry("plain", b"1")])))
@@ -352,7 +357,7 @@ def copied_up(room):
     top, at = overlay_with_attributes(room, mount)
     try:
         hold("below", wanted, every(at))
-        for name in ("home/notes", "etc/closed", "many/f00"):
+        for name in ("home/notes", "home/labeled", "etc/closed", "many/f00"):
             with open(os.path.join(at, name), "ab") as out:
                 out.write(b" more")
         hold("data", b"secret more", read(at + "/etc/closed"))
@@ -362,7 +367,7 @@ def copied_up(room):
     finally:
         unmount(at, top)
     mount.end()
-    return "%d paths in an overlay, three of them copied up with theirs" % len(wanted)
+    return "%d paths in an overlay, four of them copied up with theirs" % len(wanted)
 
 
 def without_acls(room):

@@ -88,7 +88,7 @@ def main():
     parser.add_argument("--processors", metavar="N", type=int, default=2)
     parser.add_argument("--user", action="store_true", help="by an unprivileged user")
     asked = parser.parse_intermixed_args()
-    missing = missing_programs("mke2fs", "tar")
+    missing = missing_programs(asked.kernel, "mke2fs", "tar")
     if missing:
         print("under_kernel: %s" % missing)
         return 1

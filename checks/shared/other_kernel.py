@@ -3,7 +3,8 @@
 STRATA_KERNEL names its package, as `apt-get download linux-image-6.1.0-56-amd64` fetches it from Debian; where Debian has a
 kernel in two, linux-binary and linux-modules, both stand there, with a comma between. Debian's user-mode-linux is such a
 package, too: one processor, without qemu, and ten times as fast. Instead of packages a folder may be named into which they
-were unpacked. It takes qemu-system-x86_64, dpkg-deb, cpio and a busybox that is linked statically (Debian's busybox-static).
+were unpacked. It takes qemu-system-x86_64 but for user-mode Linux, dpkg-deb, cpio and a busybox that is linked statically
+(Debian's busybox-static).
 """
 import lzma
 import os
@@ -13,7 +14,7 @@ import subprocess
 import threading
 
 PACKAGES = os.environ.get("STRATA_KERNEL")
-PROGRAMS = ("qemu-system-x86_64", "dpkg-deb", "cpio", "busybox")
+PROGRAMS = ("cpio", "busybox")
 # what the machine has of memory, in MiB, and for how many seconds it may run
 MEMORY, SECONDS = 512, 300
 # the processor that is emulated: without what makes it slow here, copies byte by byte and guards against spying
@@ -39,13 +40,21 @@ class Unfinished(Exception):
 
 def what_is_missing():
     """What stands in the way of running one, in a line, or None."""
-    return missing_programs() if PACKAGES else "STRATA_KERNEL names no package of a kernel"
+    return missing_programs(PACKAGES) if PACKAGES else "STRATA_KERNEL names no package of a kernel"
 
 
-def missing_programs(*more):
-    """The same of programs: those that each machine takes, and some more."""
-    missing = [name for name in (*PROGRAMS, *more) if shutil.which(name) is None]
+def missing_programs(packages, *more):
+    """The same of programs: those that a machine with this kernel takes, and some more."""
+    is_folder = os.path.isdir(packages)
+    is_user_mode = os.path.basename(packages).startswith("user-mode-linux") or is_folder and USER_MODE in names_in(packages)
+    wanted = (*PROGRAMS, *["dpkg-deb"] * (not is_folder), *["qemu-system-x86_64"] * (not is_user_mode), *more)
+    missing = [name for name in wanted if shutil.which(name) is None]
     return "there is no %s" % ", ".join(missing) if missing else None
+
+
+def names_in(folder):
+    """The names of all files below a folder."""
+    return {name for _, _, names in os.walk(folder) for name in names}
 
 
 # --- what packages hold ---
