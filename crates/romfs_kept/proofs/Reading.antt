@@ -5,7 +5,7 @@ use Rattle.std.proofs.lemmas.Bool.{cases_lt}
 use Rattle.std.proofs.lemmas.List.{get_or-drop, get_or-take, get_or_append_left, get_or-append_right, get_or_past, get_or-replicate, length-replicate}
 use Rattle.devices.specs.Given.{anything, these}
 use Rattle.devices.specs.Sources.{Source, file, sealed, Shows, MayFail, MayLack}
-use Rattle.romfs_kept.specs.Reads.{AreWithin, IsHeld, IsReadAt}
+use Rattle.romfs_kept.specs.Reads.{Extent, AreWithin, IsHeld, IsReadAt}
 use Rattle.romfs_kept.specs.Tails.{IsRoom}
 
 pub within_less : (s : Source) (n m : ℕ) → AreWithin s n → m ≤ n → AreWithin s m
@@ -37,11 +37,11 @@ all_zero n i = elim (cases_lt i n) [
 ]
 
 -- a room of zeros of which the front is filled from the window
-pub room_read : (s : Source) (size at start count n : ℕ) (bytes zeros room : List ℕ) → AreWithin s size
-    → IsHeld s start bytes → start ≤ at → at + count ≤ start + length bytes → at < size
-    → count ≡ min (length zeros) (size - at) → zeros ≡ replicate n 0
-    → room ≡ take count (drop (at - start) bytes) ++ drop count zeros → IsReadAt s size at room
-room_read s size at start count n bytes zeros room w0 h0 l m o c z e = record {
+pub room_read : {S : Type 0} (of : S → Source) (x : Extent S) (at start count n : ℕ) (bytes zeros room : List ℕ)
+    → AreWithin (of x.source) x.size → IsHeld (of x.source) start bytes → start ≤ at → at + count ≤ start + length bytes → at < x.size
+    → count ≡ min (length zeros) (x.size - at) → zeros ≡ replicate n 0
+    → room ≡ take count (drop (at - start) bytes) ++ drop count zeros → IsReadAt of x at room
+room_read of x at start count n bytes zeros room w0 h0 l m o c z e = record {
   each = λ b v. record {
     same = λ i k. ap (λ r. get_or r i 0) e ∙ here b v i (let g = ap length e in let f = all_long in omega arith);
   };
@@ -54,16 +54,17 @@ room_read s size at start count n bytes zeros room w0 h0 l m o c z e = record {
     all_long = (let a = length-append (take count (drop (at - start) bytes)) (drop count zeros) in
         let p = part_long in let d = length-drop count zeros in omega arith)
 
-    here : (b : List ℕ) → Shows s b → (i : ℕ) → i < length zeros
-        → get_or (take count (drop (at - start) bytes) ++ drop count zeros) i 0 ≡ get_or (take size b) (at + i) 0
+    here : (b : List ℕ) → Shows (of x.source) b → (i : ℕ) → i < length zeros
+        → get_or (take count (drop (at - start) bytes) ++ drop count zeros) i 0 ≡ get_or (take x.size b) (at + i) 0
     here b v i k = elim (cases_lt i count) [
       | inl q ↦ get_or_append_left (take count (drop (at - start) bytes)) (drop count zeros) 0 i (let p = part_long in omega arith)
           ∙ get_or-take count (drop (at - start) bytes) i 0 q ∙ get_or-drop (at - start) bytes i 0
           ∙ (h0.each b v).same (at - start + i) (omega arith)
           ∙ ap (λ x. get_or b x 0) (let f : start + (at - start + i) ≡ at + i = omega arith in f)
-          ∙ sym (get_or-take size b (at + i) 0 (omega arith))
+          ∙ sym (get_or-take x.size b (at + i) 0 (omega arith))
       | inr q ↦ get_or-append_right (take count (drop (at - start) bytes)) (drop count zeros) count i 0 part_long q
           ∙ get_or-drop count zeros (i - count) 0
           ∙ ap (λ r. get_or r (count + (i - count)) 0) z ∙ all_zero n (count + (i - count))
-          ∙ sym (get_or_past (take size b) (at + i) 0 (let t = length-take-le size b (within_shown s size w0 b v) in omega arith))
+          ∙ sym (get_or_past (take x.size b) (at + i) 0
+          (let t = length-take-le x.size b (within_shown (of x.source) x.size w0 b v) in omega arith))
     ]

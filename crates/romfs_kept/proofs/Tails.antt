@@ -58,7 +58,8 @@ read_front b place n tail h e =
     h.same i l ∙ sym (get_or-take n (drop place b) i 0 (omega arith) ∙ get_or-drop place b i 0))
 
 pub letters_there : (source : Source) (place room : ℕ) (letters tail : List ℕ) (r : Bool) → IsRoom source place room → 8 ≤ room
-    → length letters ≡ 8 → IsHeld source place tail → length tail ≡ 8 → r ≡ starts_with nat_eq tail letters → BeginsWith source place letters r
+    → length letters ≡ 8 → IsHeld source place tail → length tail ≡ 8 → r ≡ starts_with nat_eq tail letters
+    → BeginsWith source place letters r
 letters_there source place room letters tail r i0 m e h0 l f = record {
   each = λ b v.
       let i : room ≡ length b - place = room_shown source place room i0 b v in
@@ -161,7 +162,8 @@ end_none source place room full rows tail r0 h0 l e f = record {
       let w : rows ≡ row_count (drop place b) = e ∙ word_read b place tail h (omega arith) in
       let m : room ≡ length (drop place b) = r ∙ sym d in
       let g : None ≡ end_of (row_count (drop place b)) (length (drop place b)) full = rw (w, m) at f in
-      by_none (nat_le (row_start (row_count (drop place b))) (length (drop place b)) && nat_le (row_count (drop place b)) (padded full / 16))
+      by_none (nat_le (row_start (row_count (drop place b))) (length (drop place b))
+      && nat_le (row_count (drop place b)) (padded full / 16))
       (trailer_end (drop place b)) (kept_part (part (drop place b))) g;
 }
 
@@ -177,13 +179,15 @@ end_some source place room full rows end more tail r0 h0 l e f p0 = record {
       let w : rows ≡ row_count (drop place b) = e ∙ word_read b place tail h (omega arith) in
       let m : room ≡ length (drop place b) = r ∙ sym d in
       let g : Some end ≡ end_of (row_count (drop place b)) (length (drop place b)) full = rw (w, m) at f in
-      by_some (nat_le (row_start (row_count (drop place b))) (length (drop place b)) && nat_le (row_count (drop place b)) (padded full / 16))
+      by_some (nat_le (row_start (row_count (drop place b))) (length (drop place b))
+      && nat_le (row_count (drop place b)) (padded full / 16))
       (trailer_end (drop place b)) (kept_part (part (drop place b))) end more g
       (λ s. p ∙ ap kept_part (ap (λ k. drop (place + k) b) s ∙ part_at b place));
 }
 
 pub tail_read : (source : Source) (place room full end : ℕ) (tail : List ℕ) → place ≡ padded full → IsRoom source place room
-    → BeginsTrailer source place true → IsTailEnd source place full end → IsHeld source place tail → length tail ≡ min room end → IsTail source full tail
+    → BeginsTrailer source place true → IsTailEnd source place full end → IsHeld source place tail
+    → length tail ≡ min room end → IsTail source full tail
 tail_read source place room full end tail p r0 s0 e0 h0 l = record {
   each = λ b v.
       let r : room ≡ length b - place = room_shown source place room r0 b v in
@@ -279,8 +283,8 @@ module _ (b front tail a : List ℕ) (g : IsGatheredOf b front) (begins : begins
     tail = λ e. tail_is ∙ is;
   }
 
-pub with_tail : (source : Source) (front tail a : List ℕ) (full at : ℕ) → IsGathered source front → full ≡ length front → IsTail source full tail
-    → at ≡ padded full → IsFollowed front at tail a → IsGatheredWithTrailer source a
+pub with_tail : (source : Source) (front tail a : List ℕ) (full at : ℕ) → IsGathered source front → full ≡ length front
+    → IsTail source full tail → at ≡ padded full → IsFollowed front at tail a → IsGatheredWithTrailer source a
 with_tail source front tail a full at g0 e t0 p f = record {
   each = λ b v.
       let g = g0.each b v in

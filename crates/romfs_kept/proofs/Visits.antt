@@ -7,10 +7,10 @@ use Rattle.std.proofs.lemmas.List.{get_or-take}
 use Rattle.romfs_format.specs.declared.head.Kind.TheVariants.{SymLink}
 use Rattle.romfs_format.specs.declared.limits.TheConstants.{MAX_TARGET_SIZE}
 use Rattle.romfs_format.specs.Fields.{word, name, size, kind_of, data_at, padded}
-use Rattle.devices.specs.Sources.{Source}
+use Rattle.devices.specs.Sources.{Source, IfShown}
 use Rattle.romfs_kept.specs.declared.pieces.Piece.{Piece}
 use Rattle.romfs_kept.specs.Pieces.{HasBlock, HasRow}
-use Rattle.romfs_kept.specs.Reads.{HasBytesAt, IsReadAt, IsEnded, IsUnended, IsEndIn, IsHeadAt, IsHeadRead, IsAdded, AreAdded}
+use Rattle.romfs_kept.specs.Reads.{Extent, HasBytesAt, IsReadAt, IsEnded, IsUnended, IsEndIn, IsHeadAt, IsHeadRead, IsAdded, AreAdded}
 use Rattle.romfs_kept.specs.Walk.{HasText, HasTarget, IsTargetAdded, HasAddedTarget, IsVisit, HasVisited}
 use Rattle.romfs_held.proofs.Fields.{word_same}
 use Rattle.romfs_kept.proofs.Names.{name_ends}
@@ -32,10 +32,10 @@ added xs old new first count bytes few h r = record {
   has = r.has;
 }
 
-pub row_added : (s : Source) (size at first count : ℕ) (bytes : List ℕ) (old new : List Piece) → at ≡ 16 * first
-    → count ≤ length bytes / 16 → IsReadAt s size at bytes → HasRow old first bytes count new → AreAdded s size first count old new
-row_added s size at first count bytes old new e few h r = record {
-  each = λ b v. added (take size b) old new first count bytes few (subst (λ n. HasBytesAt (take size b) n bytes) e (h.each b v)) r;
+pub row_added : {S : Type 0} (of : S → Source) (x : Extent S) (at first count : ℕ) (bytes : List ℕ) (old new : List Piece) → at ≡ 16 * first
+    → count ≤ length bytes / 16 → IsReadAt of x at bytes → HasRow old first bytes count new → AreAdded of x first count old new
+row_added of x at first count bytes old new e few h r = record {
+  each = λ b v. added (take x.size b) old new first count bytes few (subst (λ n. HasBytesAt (take x.size b) n bytes) e (h.each b v)) r;
 }
 
 -- the front of a room in which the name ends, or that is as long as a header and a name can be
@@ -67,14 +67,14 @@ head_unended xs at count room h n c u =
       stops = λ l. absurd (omega arith);
     }
 
-pub head_found : (s : Source) (size at count : ℕ) (room : List ℕ) → IsReadAt s size at room → IsEnded room count
-    → IsHeadRead s size at (take count room)
+pub head_found : (s : Source) (size at count : ℕ) (room : List ℕ) → IfShown s (λ b. HasBytesAt (take size b) at room)
+    → IsEnded room count → IfShown s (λ b. IsHeadAt (take size b) at (take count room))
 head_found s size at count room r e = record { each = λ b v. head_ended (take size b) at count room (r.each b v) e }
 
-pub head_all : (s : Source) (size at : ℕ) (end : Option ℕ) (room : List ℕ) → IsReadAt s size at room → length room ≡ 272
-    → IsEndIn room end → IsHeadRead s size at (take (unwrap_or end 272) room)
-head_all s size at None room r n e = record { each = λ b v. head_unended (take size b) at 272 room (r.each b v) n refl e }
-head_all s size at (Some count) room r n e = record { each = λ b v. head_ended (take size b) at count room (r.each b v) e }
+pub head_all : {S : Type 0} (of : S → Source) (x : Extent S) (at : ℕ) (end : Option ℕ) (room : List ℕ) → IsReadAt of x at room
+    → length room ≡ 272 → IsEndIn room end → IsHeadRead of x at (take (unwrap_or end 272) room)
+head_all of x at None room r n e = record { each = λ b v. head_unended (take x.size b) at 272 room (r.each b v) n refl e }
+head_all of x at (Some count) room r n e = record { each = λ b v. head_ended (take x.size b) at count room (r.each b v) e }
 
 module _ (xs head : List ℕ) (at : ℕ) (h : IsHeadAt xs at head) where
   -- the first zero byte after the header is in the last block
@@ -160,40 +160,40 @@ module _ (xs head : List ℕ) (at : ℕ) (h : IsHeadAt xs at head) where
           second_is = f ∙ word_at 4 (omega arith);
         }
 
-pub has_visited : (s : Source) (size at : ℕ) (head : List ℕ) (old mid new : List Piece) (first second third : ℕ) → at % 16 ≡ 0
-    → IsHeadRead s size at head → HasRow old (at / 16) head (length head / 16) mid → first ≡ word head 0 → second ≡ word head 4
-    → third ≡ word head 8 → HasAddedTarget s size (at + length head) first third mid new → HasVisited s size at old new first second
-has_visited s size at head old mid new first second third w h r e f g t = record {
-  each = λ b v. visited (take size b) head at (h.each b v) old mid new first third w
-      (added (take size b) old mid (at / 16) (length head / 16) head (omega arith)
-      (subst (λ n. HasBytesAt (take size b) n head) (let z : at ≡ 16 * (at / 16) = omega arith in z) (h.each b v).same) r)
+pub has_visited : {S : Type 0} (of : S → Source) (x : Extent S) (at : ℕ) (head : List ℕ) (old mid new : List Piece) (first second third : ℕ)
+    → at % 16 ≡ 0 → IsHeadRead of x at head → HasRow old (at / 16) head (length head / 16) mid → first ≡ word head 0 → second ≡ word head 4
+    → third ≡ word head 8 → HasAddedTarget of x (at + length head) first third mid new → HasVisited of x at old new first second
+has_visited of x at head old mid new first second third w h r e f g t = record {
+  each = λ b v. visited (take x.size b) head at (h.each b v) old mid new first third w
+      (added (take x.size b) old mid (at / 16) (length head / 16) head (omega arith)
+      (subst (λ n. HasBytesAt (take x.size b) n head) (let z : at ≡ 16 * (at / 16) = omega arith in z) (h.each b v).same) r)
       (t.each b v) second e f g;
 }
 
 -- nothing was added if the target has no bytes
-pub target_none : (s : Source) (end from count first third : ℕ) (old : List Piece) → count ≡ 0
-    → (kind_of (first % 8) ≡ SymLink → third ≤ MAX_TARGET_SIZE → count ≡ min third (end - from))
-    → HasAddedTarget s end from first third old old
-target_none s end from count first third old z e = record {
+pub target_none : {S : Type 0} (of : S → Source) (x : Extent S) (from count first third : ℕ) (old : List Piece) → count ≡ 0
+    → (kind_of (first % 8) ≡ SymLink → third ≤ MAX_TARGET_SIZE → count ≡ min third (x.size - from))
+    → HasAddedTarget of x from first third old old
+target_none of x from count first third old z e = record {
   each = λ b v. record {
     right = λ r. r;
     stays = λ q h. h;
-    has = λ k l i m n. absurd (let f = e k l in let g = length-take end b in omega arith);
+    has = λ k l i m n. absurd (let f = e k l in let g = length-take x.size b in omega arith);
   };
 }
 
 -- a target whose blocks were added
-pub target_row : (s : Source) (end from count len first third : ℕ) (old new : List Piece) → from % 16 ≡ 0
-    → AreAdded s end (from / 16) (len / 16) old new → len ≡ padded count
-    → (kind_of (first % 8) ≡ SymLink → third ≤ MAX_TARGET_SIZE → count ≡ min third (end - from))
-    → HasAddedTarget s end from first third old new
-target_row s end from count len first third old new w a p e = record {
+pub target_row : {S : Type 0} (of : S → Source) (x : Extent S) (from count len first third : ℕ) (old new : List Piece) → from % 16 ≡ 0
+    → AreAdded of x (from / 16) (len / 16) old new → len ≡ padded count
+    → (kind_of (first % 8) ≡ SymLink → third ≤ MAX_TARGET_SIZE → count ≡ min third (x.size - from))
+    → HasAddedTarget of x from first third old new
+target_row of x from count len first third old new w a p e = record {
   each = λ b v. record {
     right = (a.each b v).right;
     stays = (a.each b v).stays;
     has = λ k l i m n.
         let f = e k l in
-        let g = length-take end b in
+        let g = length-take x.size b in
         subst (λ q. HasBlock new q) (let z : from / 16 + i / 16 ≡ (from + i) / 16 = omega arith in z)
         ((a.each b v).has (i / 16) (omega arith));
   };

@@ -1,7 +1,7 @@
 -- A walk over headers: each place inside that was noted waits or is done. A turn keeps this (under_turn),
 -- each turn takes one from what may still be noted and waits (smaller), and with nothing left to wait what
 -- was kept is closed (gathered).
-use Rattle.std.proofs.Common.{◌≡◌, ◌≢◌, ◌∙◌, sym, ap, subst, ℕ, zero, suc, ◌+◌, ◌-◌, ◌*◌, ◌/◌, ◌%◌, ◌^◌, ◌<◌, ◌≤◌, ◌==◌, ◌⊎◌, inl, inr, min, List, [], ◌∷◌, ◌++◌, length, take, drop, get_or, Bool, IsTrue, true, if◌then◌else◌, Option, Some, None, refl, arith, length-take, length-take-le, length-drop}
+use Rattle.std.proofs.Common.{◌≡◌, ◌≢◌, ◌∙◌, sym, ap, subst, ℕ, ◌+◌, ◌-◌, ◌/◌, ◌%◌, ◌<◌, ◌≤◌, ◌==◌, ◌⊎◌, inl, inr, min, List, [], ◌∷◌, ◌++◌, length, take, drop, get_or, Bool, IsTrue, true, if◌then◌else◌, Option, Some, None, refl, arith, length-take, length-take-le, length-drop}
 use Rattle.std.specs.Prelude.{nat_le}
 use Rattle.std.specs.Option.{option_map_or}
 use Rattle.std.specs.List.{Contains}
@@ -12,10 +12,10 @@ use Rattle.std.proofs.lemmas.List.Elements.{Contains-append_left, Contains-push,
 use Rattle.romfs_format.specs.declared.head.Kind.TheVariants.{Directory, HardLink}
 use Rattle.romfs_format.specs.declared.limits.TheConstants.{HEAD_SIZE}
 use Rattle.romfs_format.specs.Fields.{word, root, IsInside, kind_of, kind, next, spec, cleared, text_end, text_at}
-use Rattle.devices.specs.Sources.{Source, IsSizeOf}
+use Rattle.devices.specs.Sources.{Source, IsSizeOf, IfShown}
 use Rattle.romfs_kept.specs.declared.pieces.Piece.{Piece}
 use Rattle.romfs_kept.specs.Pieces.{HasBlock, AreRight, IsFilled}
-use Rattle.romfs_kept.specs.Reads.{AreWithin, HasBytesAt, IsReadAt, AreAdded}
+use Rattle.romfs_kept.specs.Reads.{Extent, AreWithin, HasBytesAt, IsReadAt, AreAdded}
 use Rattle.romfs_kept.specs.Footprint.{IsClosed, is_same, reach}
 use Rattle.romfs_kept.specs.Gathered.{IsGathered, IsReach}
 use Rattle.romfs_kept.specs.Walk.{HasText, HasTarget, IsVisit, HasVisited, HasFront, HasPushed, GoesDown, IsDone, IsWalking, IsUnderWay, HasWalked}
@@ -49,7 +49,7 @@ module _ (b front : List ℕ) (whole : ℕ) (long : whole ≡ min (length b) 429
       ]
 
 pub reached : (s : Source) (whole full size : ℕ) (front : List ℕ) (len : ℕ) → IsSizeOf s len → whole ≡ min len 4294967295
-    → IsReadAt s whole 0 front → length front ≡ 512 → full ≡ word front 8 → full < 4294967296
+    → IfShown s (λ b. HasBytesAt (take whole b) 0 front) → length front ≡ 512 → full ≡ word front 8 → full < 4294967296
     → size ≡ min whole (if nat_le HEAD_SIZE full then full else HEAD_SIZE) → IsReach s size
 reached s whole full size front len l w r n f small e = record {
   each = λ b v. reach_is b front whole (w ∙ ap (λ k. min k 4294967295) (l.shown b v)) (r.each b v) n full size f small e;
@@ -85,18 +85,18 @@ root_short xs l = root_none xs (none (text_at xs 16) refl)
     none (Some n) e = absurd (let t = name_ends xs n 16 e in let w = t.within in omega arith)
 
 -- the first bytes
-pub front_added : (s : Source) (size root_at : ℕ) (front : List ℕ) (old new : List Piece) → AreWithin s size → old ≡ []
-    → IsReadAt s size 0 front → AreAdded s size 0 32 old new
-    → ((xs : List ℕ) → length xs ≡ size → HasBytesAt xs 0 front → root_at ≡ root xs) → HasFront s size root_at new
-front_added s size root_at front old new w e r a f = record {
+pub front_added : {S : Type 0} (of : S → Source) (x : Extent S) (root_at : ℕ) (front : List ℕ) (old new : List Piece)
+    → AreWithin (of x.source) x.size → old ≡ [] → IsReadAt of x 0 front → AreAdded of x 0 32 old new
+    → ((xs : List ℕ) → length xs ≡ x.size → HasBytesAt xs 0 front → root_at ≡ root xs) → HasFront of x root_at new
+front_added of x root_at front old new w e r a f = record {
   each = λ b v. record {
-    right = (a.each b v).right (subst (λ l. AreRight (take size b) l) (sym e) (none b));
+    right = (a.each b v).right (subst (λ l. AreRight (take x.size b) l) (sym e) (none b));
     has = λ i l. subst (λ k. HasBlock new k) (let e : 0 + i ≡ i = omega arith in e) ((a.each b v).has i l);
-    is = f (take size b) (length-take-le size b (within_shown s size w b v)) (r.each b v);
+    is = f (take x.size b) (length-take-le x.size b (within_shown (of x.source) x.size w b v)) (r.each b v);
   };
 }
   where
-    none : (b : List ℕ) → AreRight (take size b) []
+    none : (b : List ℕ) → AreRight (take x.size b) []
     none b = record { each = λ x c. absurd (let l = c.1 in omega arith) }
 
 -- places of headers are multiples of 16
@@ -115,15 +115,15 @@ still_target : (xs : List ℕ) (old new : List Piece) (h : ℕ) → ((b : ℕ) �
     → HasTarget new xs h
 still_target xs old new h s t = record { each = λ k l n e i m o. s _ (t.each k l n e i m o) }
 
-module _ (start at end : ℕ) (old new : List Piece) (before todo mid after : List ℕ) (noted more most : ℕ → Bool) (first second : ℕ)
-    (test down : Bool)
+module _ (S : Type 0) (x : Extent S) (start at : ℕ) (old new : List Piece) (before todo mid after : List ℕ) (noted more most : ℕ → Bool)
+    (first second : ℕ) (test down : Bool)
     (popped : before ≡ todo ++ at ∷ [])
     (one : HasPushed todo mid noted more test (cleared first)) (two : HasPushed mid after more most down (cleared second))
-    (goes : start ≤ at → at + 16 ≤ end → cleared first ≢ 0 → IsTrue test)
+    (goes : start ≤ at → at + 16 ≤ x.size → cleared first ≢ 0 → IsTrue test)
     (at_start : at ≡ start → IsTrue down)
-    (directory : start ≤ at → at + 16 ≤ end → kind_of (first % 8) ≡ Directory → IsTrue down)
-    (link : start ≤ at → at + 16 ≤ end → kind_of (first % 8) ≡ HardLink → IsTrue down) where
-  module _ (xs : List ℕ) (long : length xs ≡ end) (is_root : start ≡ root xs) (w : IsWalking xs old before noted)
+    (directory : start ≤ at → at + 16 ≤ x.size → kind_of (first % 8) ≡ Directory → IsTrue down)
+    (link : start ≤ at → at + 16 ≤ x.size → kind_of (first % 8) ≡ HardLink → IsTrue down) where
+  module _ (xs : List ℕ) (long : length xs ≡ x.size) (is_root : start ≡ root xs) (w : IsWalking xs old before noted)
       (v : IsVisit xs at old new first second) where
     next_noted : IsInside xs at → next xs at ≢ 0 → IsTrue (most (next xs at))
     next_noted i n =
@@ -179,12 +179,12 @@ module _ (start at end : ℕ) (old new : List Piece) (before todo mid after : Li
       ];
     }
 
-  pub under_turn : (s : Source) → AreWithin s end → IsUnderWay s end start old before noted
-      → HasVisited s end at old new first second → IsUnderWay s end start new after most
-  under_turn s l u v = record {
+  pub under_turn : (of : S → Source) → AreWithin (of x.source) x.size → IsUnderWay of x start old before noted
+      → HasVisited of x at old new first second → IsUnderWay of x start new after most
+  under_turn of l u v = record {
     each = λ b w. (
       (u.each b w).0,
-      turned (take end b) (length-take-le end b (within_shown s end l b w)) (u.each b w).0 (u.each b w).1 (v.each b w),
+      turned (take x.size b) (length-take-le x.size b (within_shown (of x.source) x.size l b w)) (u.each b w).0 (u.each b w).1 (v.each b w),
     );
   }
 
@@ -207,10 +207,10 @@ popped_place before todo at e w = w at (subst (λ l. Contains l at) (sym e) (Con
 pub cleared_place : (n : ℕ) → IsPlace (cleared n)
 cleared_place n = omega arith
 
-pub under_start : (s : Source) (end start : ℕ) (pieces : List Piece) (none todo : List ℕ) (noted more : ℕ → Bool)
-    → HasFront s end start pieces → ((h : ℕ) → IsTrue (noted h) → h < end → ⊥) → HasPushed none todo noted more true start
-    → IsUnderWay s end start pieces todo more
-under_start s end start pieces none todo noted more f n p = record {
+pub under_start : {S : Type 0} (of : S → Source) (x : Extent S) (start : ℕ) (pieces : List Piece) (none todo : List ℕ)
+    (noted more : ℕ → Bool) → HasFront of x start pieces → ((h : ℕ) → IsTrue (noted h) → h < x.size → ⊥)
+    → HasPushed none todo noted more true start → IsUnderWay of x start pieces todo more
+under_start of x start pieces none todo noted more f n p = record {
   each = λ b v. (
     (f.each b v).is,
     record {
@@ -218,7 +218,7 @@ under_start s end start pieces none todo noted more f n p = record {
       front = (f.each b v).has;
       at_root = subst (λ h. IsTrue (more h)) (f.each b v).is (p.has refl);
       each = λ h q l. elim (p.only h q) [
-        | inl x ↦ absurd (n h x (let t = length-take end b in omega arith))
+        | inl m ↦ absurd (n h m (let t = length-take x.size b in omega arith))
         | inr e ↦ inl e.1
       ];
     },
@@ -269,15 +269,15 @@ module _ (xs a : List ℕ) (pieces : List Piece) (noted : ℕ → Bool) (size : 
     to_link = λ h s i k. (done h s (omega (arith, i.1))).to_spec (inr (i, inr k));
   }
 
-pub gathered : (s : Source) (size : ℕ) (pieces : List Piece) (a : List ℕ) → AreWithin s size → IsReach s size
-    → HasWalked s size pieces → length a ≡ size → IsFilled pieces size a → IsGathered s a
-gathered s size pieces a w r k0 l f = record {
+pub gathered : {S : Type 0} (of : S → Source) (x : Extent S) (pieces : List Piece) (a : List ℕ) → AreWithin (of x.source) x.size
+    → IsReach (of x.source) x.size → HasWalked of x pieces → length a ≡ x.size → IsFilled pieces x.size a → IsGathered (of x.source) a
+gathered of x pieces a w r k0 l f = record {
   each = λ b v.
       let k = k0.each b v in
       record {
         long = l ∙ r.each b v;
         headers = k.0;
         closed = subst (λ n. IsClosed (is_same (take n b) a) k.0 (take n b)) (sym l)
-            (closed (take size b) a pieces k.0 size (length-take-le size b (within_shown s size w b v)) k.1 k.2 f);
+            (closed (take x.size b) a pieces k.0 x.size (length-take-le x.size b (within_shown (of x.source) x.size w b v)) k.1 k.2 f);
       };
 }

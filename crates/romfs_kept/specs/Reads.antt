@@ -6,6 +6,11 @@ use Rattle.romfs_kept.specs.declared.fault.GatherFault.TheVariants.{Unread, Memo
 use Rattle.romfs_kept.specs.declared.pieces.Piece.{Piece}
 use Rattle.romfs_kept.specs.Pieces.{HasBlock, AreRight}
 
+-- a source, and how many of its bytes may be read
+pub record Extent (S : Type 0) : Type 0 where
+  pub source : S
+  pub size : ℕ
+
 -- the source has at least n bytes
 pub record AreWithin (source : Source) (n : ℕ) : Type 0 where
   pub size : ℕ
@@ -24,9 +29,9 @@ pub record HasBytesAt (xs : List ℕ) (at : ℕ) (room : List ℕ) : Type 0 wher
 abbrev pub IsHeld : Source → ℕ → List ℕ → Type 0
 IsHeld source start bytes = IfShown source (λ b. HasBytesAt b start bytes)
 
--- the room has those from the place on, this many
-abbrev pub IsReadAt : Source → ℕ → ℕ → List ℕ → Type 0
-IsReadAt source size at room = IfShown source (λ b. HasBytesAt (take size b) at room)
+-- the room has those that may be read, from the place on, and zeros after their end
+abbrev pub IsReadAt : {S : Type 0} → (S → Source) → Extent S → ℕ → List ℕ → Type 0
+IsReadAt of x at room = IfShown (of x.source) (λ b. HasBytesAt (take x.size b) at room)
 
 -- the name ends in the last block of this front of a header and its name
 pub record IsEnded (near : List ℕ) (count : ℕ) : Type 0 where
@@ -55,8 +60,8 @@ pub record IsHeadAt (xs : List ℕ) (at : ℕ) (head : List ℕ) : Type 0 where
       → (i : ℕ) × (i < length head) × (length head ≤ i + 16) × (get_or head i 0 ≡ 0)
 
 -- the same of bytes that are shown
-abbrev pub IsHeadRead : Source → ℕ → ℕ → List ℕ → Type 0
-IsHeadRead source size at head = IfShown source (λ b. IsHeadAt (take size b) at head)
+abbrev pub IsHeadRead : {S : Type 0} → (S → Source) → Extent S → ℕ → List ℕ → Type 0
+IsHeadRead of x at head = IfShown (of x.source) (λ b. IsHeadAt (take x.size b) at head)
 
 -- this many blocks of xs from the first on were added
 pub record IsAdded (xs : List ℕ) (first count : ℕ) (old new : List Piece) : Type 0 where
@@ -65,6 +70,7 @@ pub record IsAdded (xs : List ℕ) (first count : ℕ) (old new : List Piece) : 
   pub has : (i : ℕ) → i < count → HasBlock new (first + i)
 
 -- the same of bytes that are shown
-abbrev pub AreAdded : Source → ℕ → ℕ → ℕ → List Piece → List Piece → Type 0
-AreAdded source size first count old new =
-    IfShown source (λ b. IsAdded (take size b) first count old new)
+abbrev pub AreAdded :
+    {S : Type 0} → (S → Source) → Extent S → ℕ → ℕ → List Piece → List Piece → Type 0
+AreAdded of x first count old new =
+    IfShown (of x.source) (λ b. IsAdded (take x.size b) first count old new)

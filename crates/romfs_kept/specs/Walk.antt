@@ -6,6 +6,7 @@ use Rattle.romfs_format.specs.declared.limits.TheConstants.{MAX_TARGET_SIZE}
 use Rattle.romfs_format.specs.Fields.{root, word, IsInside, kind_of, kind, next, spec, size, name, data_at, cleared}
 use Rattle.romfs_kept.specs.declared.pieces.Piece.{Piece}
 use Rattle.romfs_kept.specs.Pieces.{HasBlock, AreRight}
+use Rattle.romfs_kept.specs.Reads.{Extent}
 
 -- the blocks of a name that begins at p were added
 pub record HasText (pieces : List Piece) (xs : List ℕ) (p : ℕ) : Type 0 where
@@ -27,9 +28,10 @@ pub record IsTargetAdded (xs : List ℕ) (from first count : ℕ) (old new : Lis
       → (i : ℕ) → i < count → from + i < length xs → HasBlock new ((from + i) / 16)
 
 -- the same of bytes that are shown
-abbrev pub HasAddedTarget : Source → ℕ → ℕ → ℕ → ℕ → List Piece → List Piece → Type 0
-HasAddedTarget source end from first count old new =
-    IfShown source (λ b. IsTargetAdded (take end b) from first count old new)
+abbrev pub HasAddedTarget :
+    {S : Type 0} → (S → Source) → Extent S → ℕ → ℕ → ℕ → List Piece → List Piece → Type 0
+HasAddedTarget of x from first count old new =
+    IfShown (of x.source) (λ b. IsTargetAdded (take x.size b) from first count old new)
 
 -- the header at a place was added with its name and target, and the words are its first two
 pub record IsVisit (xs : List ℕ) (at : ℕ) (old new : List Piece) (first second : ℕ) : Type 0 where
@@ -42,9 +44,10 @@ pub record IsVisit (xs : List ℕ) (at : ℕ) (old new : List Piece) (first seco
   pub second_is : second ≡ word xs (at + 4)
 
 -- the same of bytes that are shown
-abbrev pub HasVisited : Source → ℕ → ℕ → List Piece → List Piece → ℕ → ℕ → Type 0
-HasVisited source end at old new first second =
-    IfShown source (λ b. IsVisit (take end b) at old new first second)
+abbrev pub HasVisited :
+    {S : Type 0} → (S → Source) → Extent S → ℕ → List Piece → List Piece → ℕ → ℕ → Type 0
+HasVisited of x at old new first second =
+    IfShown (of x.source) (λ b. IsVisit (take x.size b) at old new first second)
 
 -- the first bytes were added, and the root is at this place
 pub record IsFrontAdded (xs : List ℕ) (root_at : ℕ) (new : List Piece) : Type 0 where
@@ -53,8 +56,8 @@ pub record IsFrontAdded (xs : List ℕ) (root_at : ℕ) (new : List Piece) : Typ
   pub is : root_at ≡ root xs
 
 -- the same of bytes that are shown
-abbrev pub HasFront : Source → ℕ → ℕ → List Piece → Type 0
-HasFront source end root_at new = IfShown source (λ b. IsFrontAdded (take end b) root_at new)
+abbrev pub HasFront : {S : Type 0} → (S → Source) → Extent S → ℕ → List Piece → Type 0
+HasFront of x root_at new = IfShown (of x.source) (λ b. IsFrontAdded (take x.size b) root_at new)
 
 -- the place is noted: its slot is in the set, or it is outside and leads nowhere
 abbrev pub is_noted : ℕ → List Bool → ℕ → Bool
@@ -92,13 +95,15 @@ pub record IsWalking (xs : List ℕ) (pieces : List Piece) (todo : List ℕ)
       → Contains todo h ⊎ IsDone xs pieces noted h
 
 -- the same of bytes that are shown, from the root on
-abbrev pub IsUnderWay : Source → ℕ → ℕ → List Piece → List ℕ → (ℕ → Bool) → Type 0
-IsUnderWay source end root_at pieces todo noted =
-    IfShown source (λ b.
-    (root_at ≡ root (take end b)) × IsWalking (take end b) pieces todo noted)
+abbrev pub IsUnderWay :
+    {S : Type 0} → (S → Source) → Extent S → ℕ → List Piece → List ℕ → (ℕ → Bool) → Type 0
+IsUnderWay of x root_at pieces todo noted =
+    IfShown (of x.source) (λ b.
+    (root_at ≡ root (take x.size b)) × IsWalking (take x.size b) pieces todo noted)
 
 -- every place inside that was noted is done
-abbrev pub HasWalked : Source → ℕ → List Piece → Type 0
-HasWalked source end pieces =
-    IfShown source (λ b. (noted : ℕ → Bool) × IsWalking (take end b) pieces [] noted
+abbrev pub HasWalked : {S : Type 0} → (S → Source) → Extent S → List Piece → Type 0
+HasWalked of x pieces =
+    IfShown (of x.source) (λ b.
+    (noted : ℕ → Bool) × IsWalking (take x.size b) pieces [] noted
     × ((h : ℕ) → IsTrue (noted h) → h % 16 ≡ 0))

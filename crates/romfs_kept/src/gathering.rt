@@ -4,11 +4,11 @@
 //! directory, the destination of a hard link. Each place inside is noted by its slot of 16 bytes
 //! when it is first named, and visited once, so loops end. A place outside leads nowhere.
 
-ghost use Rattle.std.specs.Prelude.{◌≡◌, ◌≢◌, ◌+◌, ◌-◌, ◌%◌, ◌<◌, ◌≤◌, ◌/◌, ◌^◌, [], false, length, get_or, min, not, count_by, ℕ, List, IsTrue, IsFalse, IfOk, OnOk, IfErr, if◌then◌else◌, nat_le};
+ghost use Rattle.std.specs.Prelude.{◌≡◌, ◌≢◌, ◌+◌, ◌%◌, ◌<◌, ◌≤◌, ◌/◌, ◌^◌, [], false, length, get_or, min, not, count_by, ℕ, List, IsTrue, IsFalse, IfOk, OnOk, IfErr, if◌then◌else◌, nat_le};
 ghost use Rattle.romfs_format.specs.declared.head.Kind.TheVariants.{Directory, HardLink};
 ghost use Rattle.romfs_format.specs.declared.limits.TheConstants.{HEAD_SIZE};
 ghost use Rattle.romfs_format.specs.Fields.{root, word, kind_of};
-ghost use Rattle.romfs_kept.specs.Reads.{AreWithin, IsCause, IsHeld, IsReadAt, HasBytesAt};
+ghost use Rattle.romfs_kept.specs.Reads.{IsCause, HasBytesAt};
 ghost use Rattle.romfs_kept.specs.Gathered.{IsGathered, IsReach};
 ghost use Rattle.romfs_kept.specs.Walk.{HasFront, is_noted, HasPushed, HasWalked};
 
@@ -16,8 +16,8 @@ use crate::fault::GatherFault;
 use crate::grain::Grain;
 use crate::packing::pack;
 use crate::pieces::Piece;
+use crate::reader::Reader;
 use crate::visit::{keep_row, visit};
-use crate::window::{Window, read};
 use devices::Contents;
 use romfs_format::Kind;
 use romfs_format::limits::{HEAD_SIZE, SUMMED_SIZE};
@@ -48,30 +48,29 @@ pub fn gather<S: Contents, A: Allocator + Copy>(
     ensures ok { IfOk result (IsGathered (S.source source.now)) }
     ensures err { IfErr result (IsCause (S.source source.now)) }
 {
-    let mut window = Window::new(alloc, grain);
-    let size = full_size(source, &mut window)?;
+    let mut reader = begin(alloc, source, grain)?;
     let mut pieces = Vec::new(alloc);
-    let root = keep_front(source, &mut window, size, &mut pieces)?;
-    walk(alloc, source, &mut window, size, root, &mut pieces)?;
-    Ok(pack(alloc, size, pieces)?)
+    let root = keep_front(&mut reader, &mut pieces)?;
+    walk(alloc, &mut reader, root, &mut pieces)?;
+    Ok(pack(alloc, reader.size(), pieces)?)
 }
 
-/// How many bytes are looked at.
-fn full_size<S: Contents, A: Allocator>(
-    source: &S,
-    window: &mut Window<A>,
-) -> Result<u32, GatherFault>
-    requires { length window.old.bytes.items ≡ 0 }
-    ensures held { OnOk result
-        (IsHeld (S.source source.now) window.new.start window.new.bytes.items) }
-    ensures reach { IfOk result (IsReach (S.source source.now)) }
-    ensures within { IfOk result (AreWithin (S.source source.now)) }
+/// A reader of all bytes that are looked at.
+fn begin<'s, S: Contents, A: Allocator>(
+    alloc: A,
+    source: &'s S,
+    grain: Grain,
+) -> Result<Reader<'s, S, A>, GatherFault>
+    ensures source { IfOk result (λ reader. reader.source ≡ source.now) }
+    ensures reach { IfOk result (λ reader. IsReach (S.source source.now) reader.size) }
     ensures err { IfErr result (IsCause (S.source source.now)) }
 {
     let whole = source.size().min(u64::from(u32::MAX)) as u32;
+    let mut reader = Reader::new(alloc, source, whole, grain);
     let mut front = [0u8; SUMMED_SIZE];
-    read(source, window, whole, 0, &mut front)?;
-    Ok(whole.min(least(word(&front, 8))))
+    reader.read(0, &mut front)?;
+    reader.cut(whole.min(least(word(&front, 8))));
+    Ok(reader)
 }
 
 /// A full size, or the size of a volume header if it is less.
@@ -88,24 +87,19 @@ fn least(full: u32) -> u32
 
 /// Adds the first bytes, and returns the place of the root.
 fn keep_front<S: Contents, A: Allocator>(
-    source: &S,
-    window: &mut Window<A>,
-    size: u32,
+    reader: &mut Reader<'_, S, A>,
     pieces: &mut Vec<Piece, A>,
 ) -> Result<u32, GatherFault>
     requires empty { pieces.old.items ≡ [] }
-    requires within { AreWithin (S.source source.now) size }
-    requires held { IsHeld (S.source source.now) window.old.start window.old.bytes.items }
-    ensures held { OnOk result
-        (IsHeld (S.source source.now) window.new.start window.new.bytes.items) }
+    ensures same { reader.new ≡ reader.old }
     ensures front { IfOk result (λ root_at.
-        HasFront (S.source source.now) size root_at pieces.new.items) }
+        HasFront S.source reader.new root_at pieces.new.items) }
     ensures even { IfOk result (λ root_at. root_at % 16 ≡ 0) }
-    ensures err { IfErr result (IsCause (S.source source.now)) }
+    ensures err { IfErr result (IsCause (S.source reader.new.source)) }
 {
     let mut front = [0u8; SUMMED_SIZE];
-    keep_row(source, window, size, 0, &mut front, pieces)?;
-    Ok(root_in(&front, size))
+    keep_row(reader, 0, &mut front, pieces)?;
+    Ok(root_in(&front, reader.size()))
 }
 
 /// The place of the root, from the first bytes.
@@ -128,24 +122,22 @@ fn root_in(front: &[u8], size: u32) -> u32
 /// Looks at the root, and at all that it leads to.
 fn walk<S: Contents, A: Allocator + Copy>(
     alloc: A,
-    source: &S,
-    window: &mut Window<A>,
-    size: u32,
+    reader: &mut Reader<'_, S, A>,
     root: u32,
     pieces: &mut Vec<Piece, A>,
 ) -> Result<(), GatherFault>
     requires even { root % 16 ≡ 0 }
-    requires front { HasFront (S.source source.now) size root pieces.old.items }
-    requires within { AreWithin (S.source source.now) size }
-    requires held { IsHeld (S.source source.now) window.old.start window.old.bytes.items }
-    ensures ok { OnOk result (HasWalked (S.source source.now) size pieces.new.items) }
-    ensures err { IfErr result (IsCause (S.source source.now)) }
+    requires front { HasFront S.source reader.old root pieces.old.items }
+    ensures same { reader.new ≡ reader.old }
+    ensures ok { OnOk result (HasWalked S.source reader.new pieces.new.items) }
+    ensures err { IfErr result (IsCause (S.source reader.new.source)) }
 {
+    let size = reader.size();
     let mut todo = Vec::new(alloc);
     let mut noted = SparseSlots::new(alloc, size as usize / BLOCK_SIZE + 1)?;
     note(&mut todo, &mut noted, size, true, root)?;
     while let Some(at) = todo.pop() {
-        let words = visit(source, window, size, at, pieces)?;
+        let words = visit(reader, at, pieces)?;
         let next = cleared(words.first);
         let goes_on = follows_next(root, size, at, next);
         note(&mut todo, &mut noted, size, goes_on, next)?;

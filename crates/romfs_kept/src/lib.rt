@@ -22,6 +22,7 @@ mod grain;
 pub mod laws;
 mod packing;
 mod pieces;
+mod reader;
 mod trailer;
 mod visit;
 mod window;

@@ -3,7 +3,7 @@
 //! It follows the full size, where the walk does not look. It is read at once, and put after what
 //! the walk kept.
 
-ghost use Rattle.std.specs.Prelude.{◌≡◌, ◌+◌, ◌*◌, ◌/◌, ◌<◌, ◌≤◌, ◌^◌, length, IfOk, IfErr, IfSome, IsTrue, MatchOption, OnOk};
+ghost use Rattle.std.specs.Prelude.{◌≡◌, ◌+◌, ◌*◌, ◌/◌, ◌<◌, ◌≤◌, ◌^◌, length, IfOk, IfErr, IfSome, IsTrue, MatchOption};
 ghost use Rattle.romfs_kept.specs.Gathered.{IsCauseWithTrailer, IsGatheredWithTrailer};
 ghost use Rattle.romfs_kept.specs.Reads.{IsCause};
 ghost use Rattle.romfs_kept.specs.Tails.{BeginsTrailer, BeginsWith, IsNoTail, IsPartEnd, IsRoom};

@@ -3,16 +3,16 @@
 //! Most names are short, so a header is read with 16 bytes of its name first, then with 48, and
 //! then with all that a name may have.
 
-ghost use Rattle.std.specs.Prelude.{◌≡◌, ◌+◌, ◌*◌, ◌-◌, ◌/◌, ◌%◌, ◌<◌, ◌≤◌, ◌^◌, length, min, IfOk, IfSome, OnOk, IfErr};
+ghost use Rattle.std.specs.Prelude.{◌≡◌, ◌+◌, ◌*◌, ◌/◌, ◌%◌, ◌≤◌, length, min, IfOk, OnOk, IfErr};
 ghost use Rattle.romfs_format.specs.declared.limits.TheConstants.{MAX_TARGET_SIZE};
 ghost use Rattle.romfs_format.specs.declared.head.Kind.TheVariants.{SymLink};
 ghost use Rattle.romfs_format.specs.Fields.{kind_of, word};
-ghost use Rattle.romfs_kept.specs.Reads.{AreWithin, IsCause, IsHeld, IsReadAt, IsEndIn, IsHeadRead, AreAdded};
+ghost use Rattle.romfs_kept.specs.Reads.{IsCause, IsReadAt, IsEndIn, IsHeadRead, AreAdded};
 ghost use Rattle.romfs_kept.specs.Walk.{HasAddedTarget, HasVisited};
 
 use crate::fault::GatherFault;
 use crate::pieces::{Piece, add_row};
-use crate::window::{Window, note_used, read};
+use crate::reader::Reader;
 use devices::Contents;
 use romfs_format::Kind;
 use romfs_format::limits::{HEAD_SIZE, MAX_TARGET_SIZE};
@@ -42,56 +42,46 @@ pub struct Words {
 
 /// Reads the header at a place, its name and its target, and adds them.
 pub fn visit<S: Contents, A: Allocator>(
-    source: &S,
-    window: &mut Window<A>,
-    size: u32,
+    reader: &mut Reader<'_, S, A>,
     at: u32,
     pieces: &mut Vec<Piece, A>,
 ) -> Result<Words, GatherFault>
-    requires at { at % 16 ≡ 0 }
-    requires within { AreWithin (S.source source.now) size }
-    requires held { IsHeld (S.source source.now) window.old.start window.old.bytes.items }
-    ensures held { OnOk result
-        (IsHeld (S.source source.now) window.new.start window.new.bytes.items) }
-    ensures known { IfOk result (λ words. HasVisited (S.source source.now) size at
+    requires { at % 16 ≡ 0 }
+    ensures same { reader.new ≡ reader.old }
+    ensures known { IfOk result (λ words. HasVisited S.source reader.new at
         pieces.old.items pieces.new.items words.first words.second) }
-    ensures err { IfErr result (IsCause (S.source source.now)) }
+    ensures err { IfErr result (IsCause (S.source reader.new.source)) }
 {
     let mut short = [0u8; SHORT];
-    if let Some(count) = read_head(source, window, size, at, &mut short)? {
-        return keep(source, window, size, at, &short[..count], pieces);
+    if let Some(count) = read_head(reader, at, &mut short)? {
+        return keep(reader, at, &short[..count], pieces);
     }
     let mut middle = [0u8; MIDDLE];
-    if let Some(count) = read_head(source, window, size, at, &mut middle)? {
-        return keep(source, window, size, at, &middle[..count], pieces);
+    if let Some(count) = read_head(reader, at, &mut middle)? {
+        return keep(reader, at, &middle[..count], pieces);
     }
     let mut long = [0u8; LONG];
-    let end = read_head(source, window, size, at, &mut long)?;
+    let end = read_head(reader, at, &mut long)?;
     let count = end.unwrap_or(LONG);
-    keep(source, window, size, at, &long[..count], pieces)
+    keep(reader, at, &long[..count], pieces)
 }
 
 /// Reads as many bytes of a header and its name as a room has, and returns the end of what is kept,
 /// if the name ends among them.
 fn read_head<S: Contents, A: Allocator>(
-    source: &S,
-    window: &mut Window<A>,
-    size: u32,
+    reader: &mut Reader<'_, S, A>,
     at: u32,
     room: &mut [u8],
 ) -> Result<Option<usize>, GatherFault>
     requires long { 16 ≤ length room.old }
     requires few { length room.old ≤ 272 }
     requires whole { length room.old % 16 ≡ 0 }
-    requires within { AreWithin (S.source source.now) size }
-    requires held { IsHeld (S.source source.now) window.old.start window.old.bytes.items }
-    ensures held { OnOk result
-        (IsHeld (S.source source.now) window.new.start window.new.bytes.items) }
-    ensures room { OnOk result (IsReadAt (S.source source.now) size at room.new) }
+    ensures same { reader.new ≡ reader.old }
+    ensures room { OnOk result (IsReadAt S.source reader.new at room.new) }
     ensures end { IfOk result (IsEndIn room.new) }
-    ensures err { IfErr result (IsCause (S.source source.now)) }
+    ensures err { IfErr result (IsCause (S.source reader.new.source)) }
 {
-    read(source, window, size, at, room)?;
+    reader.read(at, room)?;
     Ok(end_in(room))
 }
 
@@ -111,9 +101,7 @@ fn end_in(near: &[u8]) -> Option<usize>
 
 /// Adds a header and its name, and reads and adds its target.
 fn keep<S: Contents, A: Allocator>(
-    source: &S,
-    window: &mut Window<A>,
-    size: u32,
+    reader: &mut Reader<'_, S, A>,
     at: u32,
     head: &[u8],
     pieces: &mut Vec<Piece, A>,
@@ -122,26 +110,16 @@ fn keep<S: Contents, A: Allocator>(
     requires long { 16 ≤ length head.now }
     requires few { length head.now ≤ 272 }
     requires whole { length head.now % 16 ≡ 0 }
-    requires head { IsHeadRead (S.source source.now) size at head.now }
-    requires within { AreWithin (S.source source.now) size }
-    requires held { IsHeld (S.source source.now) window.old.start window.old.bytes.items }
-    ensures held { OnOk result
-        (IsHeld (S.source source.now) window.new.start window.new.bytes.items) }
-    ensures known { IfOk result (λ words. HasVisited (S.source source.now) size at
+    requires head { IsHeadRead S.source reader.old at head.now }
+    ensures same { reader.new ≡ reader.old }
+    ensures known { IfOk result (λ words. HasVisited S.source reader.new at
         pieces.old.items pieces.new.items words.first words.second) }
-    ensures err { IfErr result (IsCause (S.source source.now)) }
+    ensures err { IfErr result (IsCause (S.source reader.new.source)) }
 {
     add_row(pieces, at / 16, head)?;
-    note_used(window, head.len());
+    reader.note_used(head.len());
     let words = words_of(head);
-    keep_target(
-        source,
-        window,
-        size,
-        at as usize + head.len(),
-        words,
-        pieces,
-    )?;
+    keep_target(reader, at as usize + head.len(), words, pieces)?;
     Ok(words)
 }
 
@@ -161,34 +139,29 @@ fn words_of(head: &[u8]) -> Words
 
 /// Reads and adds the target that begins at a place, if the words are those of a symbolic link.
 fn keep_target<S: Contents, A: Allocator>(
-    source: &S,
-    window: &mut Window<A>,
-    size: u32,
+    reader: &mut Reader<'_, S, A>,
     from: usize,
     words: Words,
     pieces: &mut Vec<Piece, A>,
 ) -> Result<(), GatherFault>
     requires from { from % 16 ≡ 0 }
-    requires within { AreWithin (S.source source.now) size }
-    requires held { IsHeld (S.source source.now) window.old.start window.old.bytes.items }
-    ensures held { OnOk result
-        (IsHeld (S.source source.now) window.new.start window.new.bytes.items) }
-    ensures known { OnOk result (HasAddedTarget (S.source source.now) size from words.first
+    ensures same { reader.new ≡ reader.old }
+    ensures known { OnOk result (HasAddedTarget S.source reader.new from words.first
         words.third pieces.old.items pieces.new.items) }
-    ensures err { IfErr result (IsCause (S.source source.now)) }
+    ensures err { IfErr result (IsCause (S.source reader.new.source)) }
 {
-    let count = target_len(words, (size as usize).saturating_sub(from));
+    let count = target_len(words, (reader.size() as usize).saturating_sub(from));
     if count == 0 {
         return Ok(());
     }
     let len = padded(count);
     if len <= MIDDLE {
         let mut room = [0u8; MIDDLE];
-        keep_row(source, window, size, from as u32, &mut room[..len], pieces)?;
+        keep_row(reader, from as u32, &mut room[..len], pieces)?;
         return Ok(());
     }
     let mut room = [0u8; TARGET];
-    keep_row(source, window, size, from as u32, &mut room[..len], pieces)?;
+    keep_row(reader, from as u32, &mut room[..len], pieces)?;
     Ok(())
 }
 
@@ -208,26 +181,21 @@ fn target_len(words: Words, room: usize) -> usize
 
 /// Reads as many bytes as a room has from a place on, and adds them.
 pub fn keep_row<S: Contents, A: Allocator>(
-    source: &S,
-    window: &mut Window<A>,
-    size: u32,
+    reader: &mut Reader<'_, S, A>,
     at: u32,
     room: &mut [u8],
     pieces: &mut Vec<Piece, A>,
 ) -> Result<(), GatherFault>
     requires at { at % 16 ≡ 0 }
     requires few { length room.old ≤ 4096 }
-    requires within { AreWithin (S.source source.now) size }
-    requires held { IsHeld (S.source source.now) window.old.start window.old.bytes.items }
-    ensures held { OnOk result
-        (IsHeld (S.source source.now) window.new.start window.new.bytes.items) }
-    ensures room { OnOk result (IsReadAt (S.source source.now) size at room.new) }
-    ensures known { OnOk result (AreAdded (S.source source.now) size (at / 16)
+    ensures same { reader.new ≡ reader.old }
+    ensures room { OnOk result (IsReadAt S.source reader.new at room.new) }
+    ensures known { OnOk result (AreAdded S.source reader.new (at / 16)
         (length room.old / 16) pieces.old.items pieces.new.items) }
-    ensures err { IfErr result (IsCause (S.source source.now)) }
+    ensures err { IfErr result (IsCause (S.source reader.new.source)) }
 {
-    read(source, window, size, at, room)?;
+    reader.read(at, room)?;
     add_row(pieces, at / 16, room)?;
-    note_used(window, room.len());
+    reader.note_used(room.len());
     Ok(())
 }

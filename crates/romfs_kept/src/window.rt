@@ -1,13 +1,7 @@
-//! Reading in few reads.
-//!
-//! The last read is a window, whose bytes are not read again. A window is as long as the request,
-//! or 64 bytes. It is twice as long as the one before, up to 64 KiB, if three quarters of that one
-//! were kept: adjacent headers are read many at a time, and little is read of the data between
-//! others. Over a source that reads in blocks a window is extended to whole ones: headers that
-//! share a block are then read, and hashed, with it.
+//! Bytes of a source that were read at once.
 
-ghost use Rattle.std.specs.Prelude.{◌≡◌, ◌+◌, ◌<◌, ◌≤◌, ◌^◌, ◌++◌, length, take, drop, replicate, IsTrue, OnOk, IfErr};
-ghost use Rattle.romfs_kept.specs.Reads.{AreWithin, IsCause, IsHeld, IsReadAt};
+ghost use Rattle.std.specs.Prelude.{◌≡◌, ◌+◌, ◌<◌, ◌≤◌, ◌^◌, length, IsTrue, OnOk, IfErr};
+ghost use Rattle.romfs_kept.specs.Reads.{AreWithin, IsCause, IsHeld};
 
 use crate::fault::GatherFault;
 use crate::grain::Grain;
@@ -46,60 +40,8 @@ impl<A: Allocator> Window<A> {
     }
 }
 
-/// Notes that this many bytes of what was read were kept.
-pub fn note_used<A: Allocator>(window: &mut Window<A>, count: usize)
-    ensures start { window.new.start ≡ window.old.start }
-    ensures bytes { window.new.bytes.items ≡ window.old.bytes.items }
-{
-    window.used = window.used.saturating_add(count);
-}
-
-/// Fills a room with the bytes from a place on, of an image of this size, and with zeros after its
-/// end.
-pub fn read<S: Contents, A: Allocator>(
-    source: &S,
-    window: &mut Window<A>,
-    size: u32,
-    at: u32,
-    room: &mut [u8],
-) -> Result<(), GatherFault>
-    requires few { length room.old ≤ 4096 }
-    requires within { AreWithin (S.source source.now) size }
-    requires held { IsHeld (S.source source.now) window.old.start window.old.bytes.items }
-    ensures held { OnOk result
-        (IsHeld (S.source source.now) window.new.start window.new.bytes.items) }
-    ensures room { OnOk result (IsReadAt (S.source source.now) size at room.new) }
-    ensures err { IfErr result (IsCause (S.source source.now)) }
-{
-    clear(room);
-    if at >= size {
-        return Ok(());
-    }
-    let from = at as usize;
-    let count = room.len().min((size - at) as usize);
-    look_at(source, window, size, from, count)?;
-    copy_part(&window.bytes, from - window.start, count, room);
-    Ok(())
-}
-
-/// Fills a room with zeros.
-fn clear(room: &mut [u8])
-    ensures { room.new ≡ replicate (length room.old) 0 }
-{
-    room.fill(0);
-}
-
-/// Copies a part of some bytes to the front of a room.
-fn copy_part(bytes: &[u8], from: usize, count: usize, room: &mut [u8])
-    requires bytes { from + count ≤ length bytes.now }
-    requires room { count ≤ length room.old }
-    ensures { room.new ≡ take count (drop from bytes.now) ++ drop count room.old }
-{
-    room[..count].copy_from_slice(&bytes[from..from + count]);
-}
-
-/// Makes sure that this many bytes from a place on are in the window.
-fn look_at<S: Contents, A: Allocator>(
+/// Makes sure that this many bytes from a place on are in the window. If that fails, none are.
+pub fn look_at<S: Contents, A: Allocator>(
     source: &S,
     window: &mut Window<A>,
     size: u32,
@@ -109,8 +51,7 @@ fn look_at<S: Contents, A: Allocator>(
     requires few { from + count ≤ size }
     requires within { AreWithin (S.source source.now) size }
     requires held { IsHeld (S.source source.now) window.old.start window.old.bytes.items }
-    ensures held { OnOk result
-        (IsHeld (S.source source.now) window.new.start window.new.bytes.items) }
+    ensures held { IsHeld (S.source source.now) window.new.start window.new.bytes.items }
     ensures low { OnOk result (window.new.start ≤ from) }
     ensures high { OnOk result (from + count ≤ window.new.start + length window.new.bytes.items) }
     ensures err { IfErr result (IsCause (S.source source.now)) }
@@ -121,10 +62,15 @@ fn look_at<S: Contents, A: Allocator>(
     let wanted = next_len(window.bytes.len(), window.used).max(count);
     let start = window.grain.bound_before(from);
     let end = window.grain.bound_behind(from + wanted).min(size as usize);
-    load(source, &mut window.bytes, start, end - start)?;
     window.start = start;
     window.used = 0;
-    Ok(())
+    match load(source, &mut window.bytes, start, end - start) {
+        Ok(()) => Ok(()),
+        Err(fault) => {
+            window.bytes.clear();
+            Err(fault)
+        }
+    }
 }
 
 /// Whether this many bytes from a place on are in the window.

@@ -1,4 +1,4 @@
-use Rattle.std.proofs.Common.{◌∙◌, ◌+◌, ◌^◌, ◌≤◌, refl, inr, subst, arith}
+use Rattle.std.proofs.Common.{◌∙◌, refl, inr, subst, arith}
 use Rattle.romfs_kept.specs.Tails.{BeginsTrailer}
 use Rattle.romfs_kept.proofs.Tails.{room_is, tail_far, tail_read}
 use Rattle.romfs_kept.proofs.trailer.read_trailer.Goals as goal
