@@ -145,7 +145,7 @@ module _ (profile : Profile) (images kept : List (List ℕ)) (same : AreSameFor 
         → text.line (with_layers (map image kept)) e ≡ text.line (with_layers (map image images)) e
     unfolding text.line_with
     line_too e m =
-        ap (λ (a : Attr). text.fields_text a.ino a.mode a.nlink a.size e.layer ++ (text.path_text e.path ++ 10 ∷ []))
+        ap (λ (a : Attr). text.fields_text a.ino a.mode a.nlink a.size e.layer ++ text.path_text e.path ++ 10 ∷ [])
         (attr_same (map image kept) (map image images) stack.entries stack.rows stack.lists stack.owner stack.whole stack.whole alike
         (place e) (e, m, refl))
 
