@@ -1,7 +1,8 @@
 //! The tests of the program for what no command line can cause.
 //!
 //! Clients of a socket that cannot be accepted, or are refused memory (`clients`), readers and
-//! writers that fail (`failing`), each request for memory refused in turn (`memory`), how many
+//! writers that fail (`failing`), each request for memory refused in turn (`memory`), also over an
+//! image with extended attributes, in its file and under its digest (`attributes`), how many
 //! workers and how large batches a line sets (`plans`), and `serve` by itself, with refused memory
 //! and too few turns (`serving`). They share runs of the program and files of the test's own
 //! (`program`). Real mounts and the cases over a device test what a mount does.

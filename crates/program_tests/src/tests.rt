@@ -1,5 +1,6 @@
 //! The modules of tests, and what they share.
 
+mod attributes;
 mod clients;
 mod failing;
 mod memory;

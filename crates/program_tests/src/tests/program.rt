@@ -3,18 +3,18 @@
 use devices::{Spout, Tap};
 use std::alloc::{Allocator, Global};
 use std::fs::Files;
-use std::io::{self, Read, Write};
+use std::io::{Read, Write};
 use std::net::Net;
 use std::os::unix::fs::FileExt;
 use std::test::Fail;
 use std::thread::Threads;
 use std::{env, fs, process};
-use strata::{command, command_on_streams};
+use strata::command_on_streams;
 use test_kit::sample_images::empty;
 
 /// The status of the program over these streams, in memory of `alloc`; none if standard error has
-/// anything but this line, or anything at all if the status is 0. Arguments without a line touch no
-/// stream.
+/// anything but this line, or anything at all if the status is 0, or if the arguments are no line
+/// of streams.
 pub fn status_of<
     R: Files + Net + Threads + Sync,
     A: Allocator + Copy + Send + Sync,
@@ -25,20 +25,15 @@ where
     R::File: FileExt + Send + Sync,
     R::Dir: Send,
 {
-    let mut faults = Vec::new(global);
-    let status = match strata::line(global, words) {
-        Ok(line) => {
-            if line.device {
-                return None;
-            }
-            let (mut input, mut output) = (Tap::new(input), Spout::new(output));
-            command_on_streams(rt, alloc, &line, &mut input, &mut output, &mut faults)
-        }
-        Err(_) => {
-            let (input, output) = (io::empty(), io::sink());
-            command(rt, alloc, global, words, input, output, &mut faults).status
-        }
+    let Ok(read) = strata::line(global, words) else {
+        return None;
     };
+    if read.device {
+        return None;
+    }
+    let (mut input, mut output) = (Tap::new(input), Spout::new(output));
+    let mut faults = Vec::new(global);
+    let status = command_on_streams(rt, alloc, &read, &mut input, &mut output, &mut faults);
     let told: &[u8] = if status == 0 { &[] } else { line };
     (faults.as_slice() == told).then_some(status)
 }
