@@ -19,7 +19,8 @@ class Ahead:
 
     def __init__(self, snapshots):
         self.snapshots = snapshots
-        # held while a layer is mounted; the numbers of layers that others are about to lie on
+        # held while a layer is mounted in the background, one at a time; the numbers of layers that
+        # others are about to lie on
         self.lock, self.coming = threading.Lock(), []
 
     @contextlib.contextmanager
@@ -37,7 +38,7 @@ class Ahead:
     def begin(self, number):
         """Begins to mount a layer that has become an image, in the background."""
         if self.is_wanted():
-            begin_after(AHEAD, self.mount_unused, number)
+            begin_after(AHEAD, self.mount_in_turn, number)
 
     def mount(self, snapshot):
         """Mounts a layer that is an image; None is one that was removed."""
@@ -47,9 +48,13 @@ class Ahead:
     def is_wanted(self):
         return self.snapshots.mounts_of.keep > 0
 
+    def mount_in_turn(self, number):
+        with self.lock:
+            self.mount_unused(number)
+
     def mount_unused(self, number):
         snapshots = self.snapshots
-        with self.lock, told_as_warning("layer %d is not mounted ahead" % number):
+        with told_as_warning("layer %d is not mounted ahead" % number):
             try:
                 with snapshots.mounts_of.holding([number]):
                     if self.is_top(number):
