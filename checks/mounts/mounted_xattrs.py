@@ -78,6 +78,12 @@ def every(root):
     return {path: found(os.path.join(root, path)) for path in paths(root)}
 
 
+def hold_each(what, wanted, got):
+    hold(what, sorted(wanted), sorted(got))
+    for path, it in wanted.items():
+        hold("%s: %s" % (what, path), it, got[path])
+
+
 def put(root, path, data=b"", mode=0o644, **attributes):
     whole = os.path.join(root, path)
     os.makedirs(os.path.dirname(whole), exist_ok=True)
@@ -150,10 +156,7 @@ def extended(room):
     wanted = every(root)
     hold("a folder's", ({CAPABILITY: RAW}, {LABEL: LABELED}), (wanted["bin/ping4"], wanted["home/labeled"]))
     mount = room.mount([image_of(room, root)], *ALL)
-    got = every(mount.at)
-    hold("paths", sorted(wanted), sorted(got))
-    for path, it in wanted.items():
-        hold(path, it, got[path])
+    hold_each("mounted", wanted, every(mount.at))
     notes = mount.path(b"home/notes")
     fails("no such name", errno.ENODATA, os.getxattr, notes, "user.b")
     fails("a name's front", errno.ENODATA, os.getxattr, notes, "user.larg")
@@ -167,7 +170,7 @@ def extended(room):
         if name not in missing:
             copy = room.place()
             said(mount.at, "sh", "-c", script, copy)
-            hold("copied by " + name, wanted, every(copy))
+            hold_each("copied by " + name, wanted, every(copy))
     mount.end()
     return "%d paths, %d of them with attributes, as the folder has them, and by %s%s" % (
         len(wanted), sum(map(bool, wanted.values())),
@@ -356,18 +359,18 @@ def copied_up(room):
     mount = room.mount([image_of(room, root)], *ALL)
     top, at = overlay_with_attributes(room, mount)
     try:
-        hold("below", wanted, every(at))
-        for name in ("home/notes", "home/labeled", "etc/closed", "many/f00"):
+        hold_each("below", wanted, every(at))
+        for name in ("home/notes", "etc/closed", "many/f00"):
             with open(os.path.join(at, name), "ab") as out:
                 out.write(b" more")
         hold("data", b"secret more", read(at + "/etc/closed"))
-        hold("copied up", wanted, every(at))
+        hold_each("copied up", wanted, every(at))
         hold("in the upper folder", wanted["etc/closed"],
              {name: it for name, it in found(top + "/upper/etc/closed").items() if not name.startswith("trusted.overlay.")})
     finally:
         unmount(at, top)
     mount.end()
-    return "%d paths in an overlay, four of them copied up with theirs" % len(wanted)
+    return "%d paths in an overlay, three of them copied up with theirs" % len(wanted)
 
 
 def without_acls(room):
