@@ -30,8 +30,8 @@ const TREE: [u32; 16] = [
     0x52464a85, 0x0c1b8aeb, 0x28074408, 0xc89300be, 0x4a498008, 0xb74a1229, 0xe2c4391c, 0x5e283401,
 ];
 
-/// INIT 7.31; GETXATTR of `user.a` and LISTXATTR of node 2, `big`, with the sizes 3 and 15; and READ
-/// of 10 bytes of node 4, `d/x`: 56, 55, 48 and 80 bytes.
+/// INIT 7.31; GETXATTR of `user.a` and LISTXATTR of node 2, `big`, with the sizes 3 and 15; and a
+/// READ of 10 bytes of node 4, `d/x`: 56, 55, 48 and 80 bytes.
 const REQUESTS: &[u8; 239] = b"\
     8\0\0\0\x1a\0\0\0\x01\0\0\0\0\0\0\0\0\0\0\0\0\0\0\0\0\0\0\0\0\0\0\0\0\0\0\0\0\0\0\0\
     \x07\0\0\0\x1f\0\0\0\0\0\x02\0\x01`\0\0\
