@@ -174,6 +174,7 @@ def check_many_at_once(machine):
             it.join()
         for name in names:
             hold(name, [name if it == "first" else it for it in first], said.pop(name, None))
+    machine.collect()
     wait_until("no server", lambda: not machine.snapshotter.servers())
     machine.forget(image)
 
@@ -189,6 +190,7 @@ def check_one_mount(machine):
         machine.end(name)
     hold("servers", 1, len(machine.snapshotter.servers()))
     machine.end("c")
+    machine.collect()
     wait_until("no server", lambda: not machine.snapshotter.servers())
     machine.forget(image)
 

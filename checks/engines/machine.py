@@ -159,6 +159,11 @@ class Machine:
                    name not in [it.split()[0] for it in self.ctr("task", "ls").splitlines()[1:]])
         self.ctr("container", "rm", name)
 
+    def collect(self):
+        """Lets containerd remove what nothing names any more. By itself it may leave what came to
+        that while it removed other things, until something else changes."""
+        self.ctr("leases", "rm", "--sync", self.ctr("leases", "create").strip())
+
     def forget(self, *images):
         """Removes images, and waits until the snapshotter has nothing left."""
         if images:
