@@ -29,6 +29,8 @@ from strata_layers.image_maker import image_of_folder
 from strata_layers.lost import Lost
 
 LARGE = 1 << 17
+# so many bytes of an archive are held before the image begins
+HELD_MOST = 32 << 20
 
 
 # --- folders ---
@@ -328,6 +330,34 @@ def test_what_no_image_holds(room):
     shown = shown_of(image)
     expect((b"d",) * 512 in shown, "too much was left out")
     expect((b"huge",) not in shown and (b"minor2",) not in shown, "too little was left out")
+
+
+def test_name_like_an_option(room):
+    """The command that is printed takes an image whose name begins with - as one."""
+    folder = made_folder(room)
+    done = subprocess.run([sys.executable, "-B", TOOLS + "/layers.py", "image", folder, "--", "-y.romfs"], cwd=room.path,
+                          capture_output=True, check=False, text=True)
+    expect((done.returncode, done.stdout.split()[1:]) == (0, ["./-y.romfs", "DIR"]), "ended with %r" % (done,))
+
+
+def test_closed_terminal(room):
+    """SIGHUP ends it as SIGTERM does, and leaves nothing; under nohup it does not."""
+    made = archive([file("large", bytes(HELD_MOST + LARGE))])
+    for ignored, wanted in ((False, 129), (True, 1)):
+        words = [*["nohup"] * ignored, sys.executable, "-B", TOOLS + "/layers.py", "image", "-", room.name()]
+        run = subprocess.Popen(words, stdin=subprocess.PIPE, stdout=subprocess.DEVNULL, stderr=subprocess.DEVNULL)
+        run.stdin.write(made[:-LARGE])
+        run.stdin.flush()
+        while not any(it.startswith(".strata-") for it in os.listdir(room.path)):
+            expect(run.poll() is None, "it has ended")
+            time.sleep(0.01)
+        run.send_signal(signal.SIGHUP)
+        if ignored:
+            run.stdin.close()
+        status = run.wait()
+        run.stdin.close()
+        left = [it for it in os.listdir(room.path) if it.startswith(".strata-")]
+        expect((status, left) == (wanted, []), "ended with %d, and left %r" % (status, left))
 
 
 def test_image_of_a_large_folder(room):
