@@ -136,6 +136,7 @@ NOWHERE = {
 }
 FRONT = "the image's /etc/passwd: "
 UNREAD = {
+    "user app has the number 4294967295, which is none": [[made.entry("etc/passwd", b"app:x:4294967295:1::/:/\n77:x:x:1::/:/\n")]],
     "more than 40 symbolic links on the way": [[made.link("etc/passwd", "passwd")]],
     "a directory": [[made.folder("usr/p"), made.link("etc/passwd", "../usr/p")]],
     "not a regular file": [[made.entry("etc/passwd", kind=tarfile.FIFOTYPE)]],
@@ -170,7 +171,8 @@ def check_users_behind_links(room):
         hold(what, ("77", "0"), numbers(room, layers, "77"))
         hold(what, (1, "", NAME + "the image has no user app\n"), bwrap_words(room, layers, "app"))
     for why, layers in UNREAD.items():
-        hold(why, (1, "", "%s%s%s\n" % (NAME, FRONT, why)), bwrap_words(room, layers, "77"))
+        user = "app" if "user app" in why else "77"
+        hold(why, (1, "", "%s%s%s\n" % (NAME, FRONT, why)), bwrap_words(room, layers, user))
 
 
 def check_users_of_namespaces(room):

@@ -10,13 +10,14 @@ import shutil
 import signal
 import stat
 import subprocess
+import sys
 import tarfile
 import time
 
 from checks import ROOT
 from checks.plain import plain
 from checks.registry import made
-from checks.registry.rooms import LAYERS, SECONDS, LeftOut, hold, needs, shown_by
+from checks.registry.rooms import LAYERS, MOUNT, NAME, SECONDS, LeftOut, hold, needs, shown_by
 from checks.shared.pulled import pulled_line
 
 # the annotation of a layer that says the fs-verity digest of its image
@@ -369,6 +370,12 @@ def check_hints(room):
         why = "%s/oci-layout: no such file or directory; `strata-layers image %s IMAGE` makes an image of a directory"
         room.refused(why % (place, place), "convert", word, room.name())
         room.refused(why % (place, place), "pull", "oci:" + word, "b")
+    converted = room.name()
+    room.layers("convert", made.layout(room.name()).path, converted)
+    told = room.run(sys.executable, "-B", LAYERS, converted + ":1", room.name())
+    line = "no layer of files, but application/vnd.strata.layer.v1.romfs; `strata-layers pull oci:%s NAME` brings such an image into the" \
+           " store, and strata-mount mounts NAME\n" % converted
+    hold("a layout of images", (1, True), (told.returncode, told.stderr.endswith(line)))
     for words in (("images",), ("config", "a")):
         out, end = os.pipe()
         os.close(out)
@@ -401,6 +408,25 @@ def check_config(room):
         hold("without --bwrap", (2, "", "tools/layers.py config: argument --as-caller: only with --bwrap; see --help\n"),
              room.tried("config", *before, "--as-caller", "a"))
     hold_user_by_name(room)
+
+
+def check_closed_stores(room):
+    """Each program says so to a user who may not read a store; files need none."""
+    if os.geteuid() != 0:
+        raise LeftOut("only root becomes another user")
+    os.chmod(room.path, 0o755)
+    room.layers("pull", "oci:" + made.layout(room.name()).path, "a:1")
+    below, place = os.path.join(room.store, "below"), room.name()
+    os.mkdir(place)
+    become = ["setpriv", "--reuid", "65534", "--regid", "65534", "--clear-groups", sys.executable, "-B"]
+    for store in (room.store, below):
+        for word in ("a:1", "a", "image:a:1", "nosuch"):
+            told = room.run(*become, MOUNT, "--strata", room.strata, "--store", store, word, place)
+            hold(word, (1, "mount.py: %s: permission denied\n" % store), (told.returncode, told.stderr))
+    told = room.run(*become, LAYERS, "images", "--store", room.store)
+    hold("images", (1, NAME + "%s: permission denied\n" % room.store), (told.returncode, told.stderr))
+    told = room.run(*become, MOUNT, "--strata", room.strata, "--store", room.store, "none.romfs", place)
+    hold("a file", False, "permission denied" in told.stderr)
 
 
 AS_CALLER = ["--as-caller"] if os.geteuid() else []
@@ -574,4 +600,4 @@ def check_version(room):
 
 
 CHECKS = [check_convert, check_compress, check_archives, check_platforms, check_pull, check_pull_on_btrfs, check_missing, check_shared, check_rows_of_the_layers_below, check_names,
-          check_hints, check_config, check_commands_instead, check_images_of_root, check_closed_places, check_lost, check_other_forms, check_examples_of_the_page, check_version]
+          check_hints, check_closed_stores, check_config, check_commands_instead, check_images_of_root, check_closed_places, check_lost, check_other_forms, check_examples_of_the_page, check_version]
