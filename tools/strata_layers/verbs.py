@@ -149,7 +149,7 @@ def sandbox_words(store, name, it, asked):
         return podman_words(it)
     caller = os.geteuid(), os.getegid()
     user = image_user(store, name, it.user, caller)
-    return bwrap_words(it, user, caller, asked.options, asked.as_caller)
+    return bwrap_words(it, user, caller, asked)
 
 
 def run_attributes(asked):
