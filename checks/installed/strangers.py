@@ -98,7 +98,12 @@ def surroundings(root):
             taken_away(root)
         held_refused(root, helper, NOT_MOUNTED, "no such file", helper, "/none", PLACE, cwd=folder, env=odd)
     hold("what was planted", False, os.path.exists(PLANTED))
-    return "environment, working folder, links and masks decide nothing"
+    hold("strata-mount", 0, root.run("strata-mount", "--background", LOWER, PLACE, env=dict(os.environ, SECRET="1")).status)
+    for process in servers():
+        with open("/proc/%d/environ" % process, "rb") as told:
+            hold("a secret of the caller's", False, b"SECRET" in told.read())
+    taken_away(root)
+    return "environment, working folder, links and masks decide nothing; no server keeps the environment"
 
 
 def odd_words(root):

@@ -29,6 +29,8 @@ from strata_layers.image_maker import image_of_folder
 from strata_layers.lost import Lost
 
 LARGE = 1 << 17
+# so many bytes of an archive are held before the image begins
+HELD_MOST = 32 << 20
 
 
 # --- folders ---
@@ -286,6 +288,9 @@ def test_refused_images(room):
                  "`strata-layers image - IMAGE < ARCHIVE`" % folder)
     refuse_image(room, (folder, folder), "%s: exists and is not a file" % folder)
     refuse_image(room, (folder, "/dev/null"), "/dev/null: exists and is not a file")
+    put(room.path, "aim.romfs", b"1")
+    os.symlink("aim.romfs", room.path + "/link")
+    refuse_image(room, (folder, room.path + "/link"), room.path + "/link: is a symbolic link: name the file that is to be replaced")
     refuse_image(room, (folder, "-"), "an image cannot be written to standard output; ./- is a file of that name")
     refuse_image(room, (folder, none + "/x"), none + ": no such file or directory")
     line = "the image must be outside the folder that it is made from"
@@ -330,6 +335,34 @@ def test_what_no_image_holds(room):
     expect((b"huge",) not in shown and (b"minor2",) not in shown, "too little was left out")
 
 
+def test_name_like_an_option(room):
+    """The command that is printed takes an image whose name begins with - as one."""
+    folder = made_folder(room)
+    done = subprocess.run([sys.executable, "-B", TOOLS + "/layers.py", "image", folder, "--", "-y.romfs"], cwd=room.path,
+                          capture_output=True, check=False, text=True)
+    expect((done.returncode, done.stdout.split()[1:]) == (0, ["./-y.romfs", "DIR"]), "ended with %r" % (done,))
+
+
+def test_closed_terminal(room):
+    """SIGHUP ends it as SIGTERM does, and leaves nothing; under nohup it does not."""
+    made = archive([file("large", bytes(HELD_MOST + LARGE))])
+    for ignored, wanted in ((False, 129), (True, 1)):
+        words = [*["nohup"] * ignored, sys.executable, "-B", TOOLS + "/layers.py", "image", "-", room.name()]
+        run = subprocess.Popen(words, stdin=subprocess.PIPE, stdout=subprocess.DEVNULL, stderr=subprocess.DEVNULL)
+        run.stdin.write(made[:-LARGE])
+        run.stdin.flush()
+        while not any(it.startswith(".strata-") for it in os.listdir(room.path)):
+            expect(run.poll() is None, "it has ended")
+            time.sleep(0.01)
+        run.send_signal(signal.SIGHUP)
+        if ignored:
+            run.stdin.close()
+        status = run.wait()
+        run.stdin.close()
+        left = [it for it in os.listdir(room.path) if it.startswith(".strata-")]
+        expect((status, left) == (wanted, []), "ended with %d, and left %r" % (status, left))
+
+
 def test_image_of_a_large_folder(room):
     """An image that would have 4 GiB is refused in one line before anything is read."""
     folder, image = room.name(), room.name()
@@ -350,14 +383,29 @@ def test_image_of_an_archive(room):
     words, image = [TOOLS + "/layers.py", "image", "-"], room.name()
     cut_off = b"tools/layers.py: the archive is truncated\n"
     empty = b"tools/layers.py: standard input is empty\n"
+    none = b"tools/layers.py: standard input is no tar archive\n"
     other = "tools/layers.py: standard input is compressed with %s: pass it through `%s -dc` first\n"
     others = {name: (1, (other % (name, name)).encode()) for name in ("xz", "bzip2")}
     for given, wanted in ((made, (0, b"")), (made[:2000], (1, cut_off)), (b"", (1, empty)),
+                          (b"x" * 5000, (1, none)), (b"x", (1, none)), (made[:300], (1, none)),
                           (lzma.compress(made), others["xz"]), (bz2.compress(made), others["bzip2"]),
                           (bz2.compress(b"", 1), others["bzip2"]), (gzip.compress(made), (0, b""))):
         done = subprocess.run([*words, image], input=given, capture_output=True, check=False)
         expect((done.returncode, done.stderr) == wanted, "ended with %r" % (done,))
         room.hold([image], [made])
+
+
+def test_replaced_image(room):
+    """A tree of the image that is replaced goes with it; only a file is removed."""
+    folder, image = made_folder(room), room.name()
+    expect(run_tool("image", folder, image)[0] == 0, "no image")
+    expect(run_tool("seal", image)[0] == 0, "no tree")
+    expect(os.path.exists(image + ".verity"), "no tree")
+    expect(run_tool("image", folder, image)[0] == 0, "not replaced")
+    expect(not os.path.lexists(image + ".verity"), "the old tree is there")
+    os.symlink("none", image + ".verity")
+    expect(run_tool("image", folder, image)[0] == 0, "not replaced")
+    expect(os.path.islink(image + ".verity"), "a link was removed")
 
 
 def set_mark(path, name, value):

@@ -228,7 +228,7 @@ def printed_to_user(room, image):
     os.chmod(runtime, 0o777)
     refused = subprocess.run([*words, "--share", "--print", image], **who)
     hold("a folder in which all may write", 1, refused.returncode)
-    hold("what is said of it", True, "nobody else may write in it" in refused.stderr)
+    hold("what is said of it", True, "nobody else may write in it; `chmod 700 %s` sees to that" % runtime in refused.stderr)
     del who["env"]["XDG_RUNTIME_DIR"]
     refused = subprocess.run([*words, "--share", "--print", image], **who)
     line = ("mount.py: /run/user/%d: No such file or directory; shared mounts are noted there; without a login session, set "
@@ -251,6 +251,13 @@ def strangers(room):
         status, _, told = run(room, "--share", image, room.place())
         hold("a folder of %d" % owner, (1, True), (status, "nobody else may write in it" in told))
     os.rmdir("/run/strata")
+    mode = os.stat("/run").st_mode & 0o7777
+    os.chmod("/run", 0o1777)
+    status, _, told = run(room, "--share", image, room.place())
+    hold("a folder of all", (1, True), (status, "/run: shared mounts" in told and told.endswith("; `chmod 755 /run` sees to that\n")))
+    os.chmod("/run", mode)
+    status, _, told = run(room, "--share", "--print", image, room.place())
+    hold("a DIR beside --print", (1, True), (status, told.endswith(": is a directory; --print takes no DIR, and prints one\n")))
     os.mkdir("/run/elsewhere", 0o700)
     os.symlink("/run/elsewhere", "/run/strata")
     status, _, told = run(room, "--share", image, room.place())

@@ -266,6 +266,8 @@ def check_sealed_by_name(room):
             ("team/app@" + other, "team/app@%s: the manifest in %s is another, %s\n" % (other, room.store, digest)),
             ("team/app:2@" + digest, "team/app:2: no such image"), ("image:team/none@" + digest, "team/none: no such image"),
             ("image:team/app@" + digest[:-1], "behind @ the digest of a manifest is wanted"),
+            ("team/app@sha256:zz", "team/app@sha256:zz: behind @ the digest of a manifest is wanted, sha256: with 64 hex digits\n"),
+            ("none@sha256:", "none@sha256:: behind @ the digest of a manifest is wanted, sha256: with 64 hex digits\n"),
             ("team/archives@" + digest, "is another")):
         hold_not_mounted(room, 1, line, word)
     hold_not_mounted(room, 1, "not with -o unsealed", "-o", "unsealed", "team/app@" + digest)
@@ -292,7 +294,12 @@ def check_changed_stores(room):
     rename(second)
     for word in ("app:1", "app@" + digest):
         hold_not_mounted(room, 3, "image 1: not as sealed\n", word)
+    hold_not_mounted(room, 3, "another image's; `strata-layers verify` makes a tree again, or sets a damaged image aside for "
+                     "`strata-layers pull` to bring\n", "app:1")
     rename(second)
+    os.rename(second + ".verity", second + ".away")
+    hold_not_mounted(room, 3, "no such file or directory; `strata-layers verify` makes it again\n", "app:1")
+    os.rename(second + ".away", second + ".verity")
     # another layer with its own tree and digest, under the old name
     shutil.copy(second, first)
     os.chmod(first + ".verity", 0o644)

@@ -108,6 +108,26 @@ def check_only_what_is_missing(room):
          {it: size - after[it] for it, size in again.items() if size != after[it]})
 
 
+def check_names_by_digest(room):
+    """An image that a digest names gets the tag that stands before it; by a digest alone no other image's name is taken."""
+    registry, digests = Registry(room), {}
+    for tag, layers in (("old", made.LAYERS[:2]), ("new", made.LAYERS)):
+        path = made.layout(room.name(), layers).path
+        push(room, registry, path + ":1", "lt:" + tag)
+        data = room.ran("skopeo", "inspect", "--raw", "docker://%s/lt:%s" % (registry.host, tag))
+        digests[tag] = made.digest(data.encode())
+    source = "docker://%s/lt" % registry.host
+    hold("new", pulled_line("lt:latest", 5, 5), room.layers("pull", source + "@" + digests["new"]))
+    hold("the same", pulled_line("lt:latest", 5, 0), room.layers("pull", source + "@" + digests["new"]))
+    before = room.layers("images")
+    bare = source + "@" + digests["old"]
+    room.refused("lt:latest: the store has another image of this name; say one: `strata-layers pull %s NAME`" % bare, "pull", bare)
+    hold("images", before, room.layers("images"))
+    hold("with a tag", "lt:old: 2 layers", room.layers("pull", "%s:old@%s" % (source, digests["old"]))[:16])
+    hold("with a name", "other:latest: 2 layers", room.layers("pull", bare, "other")[:22])
+    hold("latest", True, all(it in room.layers("images").splitlines() for it in before.splitlines()))
+
+
 def check_broken_registry(room):
     """A blob that the registry gives with a flipped byte is refused; so is what isn't there."""
     registry, out = Registry(room), room.name()
@@ -219,5 +239,5 @@ def check_full_store(room):
     hold("why", True, line.endswith(": no space left on device"))
 
 
-CHECKS = [check_against_umoci, check_back_unchanged, check_sealed_from_a_registry, check_only_what_is_missing, check_broken_registry,
+CHECKS = [check_against_umoci, check_back_unchanged, check_sealed_from_a_registry, check_only_what_is_missing, check_names_by_digest, check_broken_registry,
           check_platforms_of_a_registry, check_killed_while_it_fetches, check_full_store, check_built_by_buildah]

@@ -36,14 +36,14 @@ def library_files(program):
 def shell_image(path):
     """A layout of an image with a shell and an entry point, which says what it was given."""
     files = {"/bin/sh": os.path.realpath("/bin/sh"), **library_files("/bin/sh")}
-    entries = [made.folder(it) for it in ("bin", "dev", "etc", "proc", "run", "srv", "sys", "tmp")]
+    entries = [made.folder(it) for it in ("bin", "dev", "etc", "proc", "run", "sys", "tmp")] + [made.folder("srv", 0o777)]
     for name, source in files.items():
         with open(source, "rb") as file:
             entries.append(made.entry(name.lstrip("/"), file.read(), mode=0o755))
     text = b'#!/bin/sh\necho "served: $1 $WORD $PWD"\n(echo new > new) 2>/dev/null && echo "written: yes"\nexit 0\n'
     it = made.Layout(path)
     config = {"os": "linux", "architecture": "amd64", "config": {
-        "Entrypoint": ["/bin/serve"], "Cmd": ["a page"], "Env": ["PATH=/bin", "WORD=x y"], "WorkingDir": "/srv", "User": "0"}}
+        "Entrypoint": ["/bin/serve"], "Cmd": ["a page"], "Env": ["PATH=/bin", "WORD=x y"], "WorkingDir": "/srv", "User": "7:8"}}
     layers = [made.archive(*entries), made.archive(made.entry("bin/serve", text, mode=0o755))]
     config["rootfs"] = {"type": "layers", "diff_ids": [made.digest(layer) for layer in layers]}
     blobs = [it.blob(made.ARCHIVE + "+gzip", gzip.compress(layer, mtime=0)) for layer in layers]

@@ -41,9 +41,9 @@ def image(room, user):
     return it.path
 
 
-def told(room, words, at):
+def told(room, words, at, *options):
     """The command that the tool prints for a sandbox over a mount, or its fault, as lines."""
-    done = subprocess.run([*words, sys.executable, "-B", LAYERS, "config", "--store", room.store, "--bwrap", "app",
+    done = subprocess.run([*words, sys.executable, "-B", LAYERS, "config", "--store", room.store, "--bwrap", *options, "app",
                            "--ro-bind", at, "/", *OPTIONS], stdin=subprocess.DEVNULL, stdout=subprocess.PIPE,
                           stderr=subprocess.PIPE, text=True, check=False, env=room.environment)
     return done.stdout if done.returncode == 0 else None, done.stderr
@@ -58,7 +58,8 @@ def ran(room, words, command):
 
 # by the user that an image says: what its program reads, as whom it runs, and its home
 SEEN = {
-    "": ["of-root", "of-tape", "of-worker", "of-all", "Uid: 0", "Gid: 0", "Home: /root"],
+    # root has no capabilities there
+    "": ["of-root", "of-tape", "of-all", "Uid: 0", "Gid: 0", "Home: /root"],
     "worker": ["of-tape", "of-worker", "of-all", "Uid: 1000", "Gid: 1000", "Home: /home/worker"],
     "1000:1000": ["of-worker", "of-all", "Uid: 1000", "Gid: 1000", "Home: /home/worker"],
     "nobody": ["of-all", "Uid: 65534", "Gid: 65534", "Home: /"],
@@ -75,7 +76,7 @@ def check_users_of_sandboxes(room):
     for user, wanted in SEEN.items():
         room.layers("pull", "oci:" + image(room, user), "app")
         at = mounted(room, "-o", "allow_other", "image:app")
-        command, fault = told(room, [], at)
+        command, fault = told(room, [], at, *([] if user else ["--as-caller"]))
         hold("told for %r" % user, "", fault)
         hold("what %r reads" % user, wanted, ran(room, [], command))
     at = mounted(room, "image:app")
@@ -135,6 +136,7 @@ NOWHERE = {
 }
 FRONT = "the image's /etc/passwd: "
 UNREAD = {
+    "user app has the number 4294967295, which is none": [[made.entry("etc/passwd", b"app:x:4294967295:1::/:/\n77:x:x:1::/:/\n")]],
     "more than 40 symbolic links on the way": [[made.link("etc/passwd", "passwd")]],
     "a directory": [[made.folder("usr/p"), made.link("etc/passwd", "../usr/p")]],
     "not a regular file": [[made.entry("etc/passwd", kind=tarfile.FIFOTYPE)]],
@@ -169,7 +171,8 @@ def check_users_behind_links(room):
         hold(what, ("77", "0"), numbers(room, layers, "77"))
         hold(what, (1, "", NAME + "the image has no user app\n"), bwrap_words(room, layers, "app"))
     for why, layers in UNREAD.items():
-        hold(why, (1, "", "%s%s%s\n" % (NAME, FRONT, why)), bwrap_words(room, layers, "77"))
+        user = "app" if "user app" in why else "77"
+        hold(why, (1, "", "%s%s%s\n" % (NAME, FRONT, why)), bwrap_words(room, layers, user))
 
 
 def check_users_of_namespaces(room):
@@ -183,8 +186,8 @@ def check_users_of_namespaces(room):
         hold("refused", (None, NAME + why % numbers_said + "\n"), told(room, inside, "/"))
     command = room.ran(*inside, sys.executable, "-B", LAYERS, "config", "--store", room.store, "--bwrap", "--as-caller", "app",
                        "--ro-bind", "/", "/")
-    hold("his own rights", ["bwrap", "--ro-bind", "/", "/", "--unshare-user", "--uid", "0", "--gid", "26"], shlex.split(command)[:9])
-    front = command.partition(" --clearenv")[0] + " --proc /proc "
+    hold("his own rights", ["bwrap", "--unshare-user", "--uid", "0", "--gid", "26"], shlex.split(command)[:6])
+    front = command.partition(" -- ")[0] + " --proc /proc "
     hold("numbers", ["Uid: 0", "Gid: 26"], ran(room, inside, front + "sh -c " + shlex.quote(NUMBERS)))
     room.layers("pull", "oci:" + image(room, ""), "app")
     hold("root", "bwrap", (told(room, inside, "/")[0] or "").split(" ")[0])

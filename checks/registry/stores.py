@@ -10,13 +10,14 @@ import shutil
 import signal
 import stat
 import subprocess
+import sys
 import tarfile
 import time
 
 from checks import ROOT
 from checks.plain import plain
 from checks.registry import made
-from checks.registry.rooms import LAYERS, SECONDS, LeftOut, hold, needs, shown_by
+from checks.registry.rooms import LAYERS, MOUNT, NAME, SECONDS, LeftOut, hold, needs, shown_by
 from checks.shared.pulled import pulled_line
 
 # the annotation of a layer that says the fs-verity digest of its image
@@ -369,6 +370,12 @@ def check_hints(room):
         why = "%s/oci-layout: no such file or directory; `strata-layers image %s IMAGE` makes an image of a directory"
         room.refused(why % (place, place), "convert", word, room.name())
         room.refused(why % (place, place), "pull", "oci:" + word, "b")
+    converted = room.name()
+    room.layers("convert", made.layout(room.name()).path, converted)
+    told = room.run(sys.executable, "-B", LAYERS, converted + ":1", room.name())
+    line = "no layer of files, but application/vnd.strata.layer.v1.romfs; `strata-layers pull oci:%s NAME` brings such an image into the" \
+           " store, and strata-mount mounts NAME\n" % converted
+    hold("a layout of images", (1, True), (told.returncode, told.stderr.endswith(line)))
     for words in (("images",), ("config", "a")):
         out, end = os.pipe()
         os.close(out)
@@ -384,10 +391,10 @@ def check_config(room):
     room.layers("pull", "oci:" + source.path, "a")
     hold("config", "entrypoint /bin/say 'it'\"'\"'s'\ncommand 'a b'\nenv PATH=/bin\nenv 'WORD=x y'\nenv HOME\nenv '=a b'\nenv =x=y\nenv ''\nfolder /var\nuser 7:8\n",
          room.layers("config", "a"))
-    rest = ["--clearenv", "--setenv", "HOME", "/", "--setenv", "PATH", "/bin", "--setenv", "WORD", "x y",
-            "--chdir", "/var", "--", "/bin/say", "it's", "a b"]
+    said = ["--clearenv", "--setenv", "HOME", "/", "--setenv", "PATH", "/bin", "--setenv", "WORD", "x y",
+            "--chdir", "/var"]
     hold_bwrap(room, "a", ["--uid", "7", "--gid", "8"], ["setpriv", "--reuid", "7", "--regid", "8", "--clear-groups",
-                                                         "--inh-caps=-all"], rest)
+                                                         "--inh-caps=-all"], said)
     words = shlex.split(room.layers("config", "--podman", "a"))
     hold("podman", ["--entrypoint", '["/bin/say", "it\'s", "a b"]', "--workdir", "/var", "--env", "PATH=/bin",
                     "--env", "WORD=x y", "--user", "7:8"], words)
@@ -401,6 +408,74 @@ def check_config(room):
         hold("without --bwrap", (2, "", "tools/layers.py config: argument --as-caller: only with --bwrap; see --help\n"),
              room.tried("config", *before, "--as-caller", "a"))
     hold_user_by_name(room)
+
+
+def check_closed_stores(room):
+    """Each program says so to a user who may not read a store; files need none."""
+    if os.geteuid() != 0:
+        raise LeftOut("only root becomes another user")
+    os.chmod(room.path, 0o755)
+    room.layers("pull", "oci:" + made.layout(room.name()).path, "a:1")
+    below, place = os.path.join(room.store, "below"), room.name()
+    os.mkdir(place)
+    become = ["setpriv", "--reuid", "65534", "--regid", "65534", "--clear-groups", sys.executable, "-B"]
+    for store in (room.store, below):
+        for word in ("a:1", "a", "image:a:1", "nosuch"):
+            told = room.run(*become, MOUNT, "--strata", room.strata, "--store", store, word, place)
+            hold(word, (1, "mount.py: %s: permission denied\n" % store), (told.returncode, told.stderr))
+    told = room.run(*become, LAYERS, "images", "--store", room.store)
+    hold("images", (1, NAME + "%s: permission denied\n" % room.store), (told.returncode, told.stderr))
+    told = room.run(*become, MOUNT, "--strata", room.strata, "--store", room.store, "none.romfs", place)
+    hold("a file", False, "permission denied" in told.stderr)
+
+
+AS_CALLER = ["--as-caller"] if os.geteuid() else []
+
+
+def check_commands_instead(room):
+    """Behind `--` stands a command that is run instead of the image's, also of an image that has none; behind a name no
+    option of the tool itself."""
+    for name, run in (("a", made.RUN), ("bare", {"User": "7:8"})):
+        source = made.Layout(room.name(), run)
+        source.index(made.tagged(source.image(made.LAYERS), "1"))
+        room.layers("pull", "oci:" + source.path, name)
+    room.refused("the image says neither an entry point nor a command; behind -- stands a command to run instead",
+                 "config", "--bwrap", *AS_CALLER, "bare")
+    for name in ("a", "bare"):
+        for command in (["sh", "-c", "env -- x"], ["--x", "--", "--help"]):
+            words = shlex.split(room.layers("config", "--bwrap", *AS_CALLER, name, "--ro-bind", "/", "/", "--", *command))
+            hold("its end", ["--ro-bind", "/", "/", "--", *command], words[-4 - len(command):])
+            hold("no environment of the caller", True, "--clearenv" in words[:-4 - len(command)])
+        hold("without options", ["--", "sh"], shlex.split(room.layers("config", "--bwrap", *AS_CALLER, "--", name, "--", "sh"))[-2:])
+    line = "tools/layers.py config: %s; see --help\n"
+    for after in ("--store=x", "--store", "--help", "-h", "--bwrap", "--podman", "--as-caller"):
+        hold("behind the name", (2, "", line % (after + ": stands before NAME[:TAG], after which are options of bwrap")),
+             room.tried("config", "--bwrap", "a", "--dev", "/dev", after))
+    for words, why in ((("a", "sh"), "sh: no option of bwrap; a command stands after --"),
+                       (("a", "--"), "the command after -- is missing")):
+        hold("wrong", (2, "", line % why), room.tried("config", "--bwrap", *words))
+
+
+ROOT_REFUSED = "the image's user is root, and so are you: it would have root's rights here; run this as another user, or say --as-caller"
+
+
+def check_images_of_root(room):
+    """Root is refused an image whose user is root, unless root says so; then it has no capabilities."""
+    if os.geteuid() != 0:
+        raise LeftOut("only root runs it as root")
+    passwd = made.archive(made.entry("etc/passwd", b"root:x:0:0::/root:/\nadmin:x:0:5::/:/\n"))
+    setpriv = "setpriv --reuid 0 --regid %s --clear-groups --inh-caps=-all "
+    for user, front in ((None, ""), ("", ""), ("root", ""), ("0", ""), ("0:0", ""), (":34", setpriv % 34), ("0:34", setpriv % 34),
+                        ("admin", setpriv % 5)):
+        source = made.Layout(room.name(), {**made.RUN, **({} if user is None else {"User": user})})
+        if user is None:
+            del source.run["User"]
+        source.index(made.tagged(source.image([passwd]), "1"))
+        room.layers("pull", "oci:" + source.path, "a")
+        room.refused(ROOT_REFUSED, "config", "--bwrap", "a")
+        room.refused(ROOT_REFUSED, "config", "--bwrap", "a", "--unshare-all", "--uid", "7", "--", "sh")
+        words = room.layers("config", "--bwrap", "--as-caller", "a", "--proc", "/proc")
+        hold("as root, user %r" % user, True, words.startswith(front + "bwrap --cap-drop ALL --clearenv "))
 
 
 def check_closed_places(room):
@@ -424,19 +499,20 @@ def check_closed_places(room):
                 room.refused(line % (place, closed), *words)
 
 
-def hold_bwrap(room, name, numbers, become, rest):
+def hold_bwrap(room, name, numbers, become, said):
     """The command of bwrap by who calls: root becomes the image's user, and anybody else is refused or has his own rights
-    under that user's number."""
-    options = ["--ro-bind", "/a b", "/"]
+    under that user's number. What the image says comes first, so the caller's options count."""
+    options = ["--ro-bind", "/a b", "/", "--setenv", "PATH", "/own", "--chdir", "/"]
+    rest = [*said, *options, "--", "/bin/say", "it's", "a b"]
     if os.geteuid() == 0:
         words = shlex.split(room.layers("config", "--bwrap", name, *options))
-        hold("by root", [*become, "bwrap", *options, *rest], words)
+        hold("by root", [*become, "bwrap", *rest], words)
         room.refused("--as-caller would give root's rights to the image's user; leave it out", "config", "--bwrap",
                      "--as-caller", name)
     else:
         room.refused("the image's user is ..with your rights under that number", "config", "--bwrap", name)
         words = shlex.split(room.layers("config", "--bwrap", "--as-caller", name, *options))
-        hold("by a user", ["bwrap", *options, "--unshare-user", *numbers, *rest], words)
+        hold("by a user", ["bwrap", "--unshare-user", *numbers, *rest], words)
 
 
 def hold_user_by_name(room):
@@ -451,7 +527,7 @@ def hold_user_by_name(room):
         room.layers("pull", "oci:" + source.path, name)
         hold("podman", True, user in shlex.split(room.layers("config", "--podman", name)))
     said = ["--setenv", "PATH", "/bin", "--setenv", "WORD", "x y"]
-    rest = ["--chdir", "/var", "--", "/bin/say", "it's", "a b"]
+    rest = ["--chdir", "/var"]
     numbers = ["--uid", "33", "--gid", "34"]
     become = ["setpriv", "--reuid", "33", "--regid", "34", "--groups", "26", "--inh-caps=-all"]
     hold_bwrap(room, "named", numbers, become, ["--clearenv", "--setenv", "HOME", "/srv/web", *said, *rest])
@@ -524,4 +600,4 @@ def check_version(room):
 
 
 CHECKS = [check_convert, check_compress, check_archives, check_platforms, check_pull, check_pull_on_btrfs, check_missing, check_shared, check_rows_of_the_layers_below, check_names,
-          check_hints, check_config, check_closed_places, check_lost, check_other_forms, check_examples_of_the_page, check_version]
+          check_hints, check_closed_stores, check_config, check_commands_instead, check_images_of_root, check_closed_places, check_lost, check_other_forms, check_examples_of_the_page, check_version]

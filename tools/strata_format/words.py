@@ -16,6 +16,11 @@ def quoted(words):
                     for it in words)
 
 
+def no_option(path):
+    """A path so that no program takes it for an option."""
+    return "./" + path if path.startswith("-") else path
+
+
 class WrongWords(Exception):
     """What is wrong with the arguments, as one line."""
 

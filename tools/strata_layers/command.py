@@ -20,7 +20,7 @@ import sys
 from strata_format import ends
 from strata_format.refused import Refused, shown
 from strata_format.version import command, version
-from strata_format.words import quoted
+from strata_format.words import no_option, quoted
 
 VERBS = ("image", "convert", "pull", "images", "verify", "remove", "prune", "config", "attributes",
          "seal", "podman")
@@ -75,7 +75,7 @@ def images_of_layout(words, options):
     paths = write_images(*words, lost)
     for line in lost.lines():
         say(line)
-    ends.put(os.fsencode(quoted([command("mount"), *paths, "DIR"])) + b"\n", "the images are made")
+    ends.put(os.fsencode(quoted([command("mount"), *map(no_option, paths), "DIR"])) + b"\n", "the images are made")
     return 0
 
 
@@ -101,8 +101,10 @@ def run(words):
 
 def main(words):
     ends.begin()
-    # an end by a signal removes what was begun
-    signal.signal(signal.SIGTERM, lambda *_: sys.exit(143))
+    # an end by a signal removes what was begun; under nohup the end of a terminal is none
+    ending = [signal.SIGTERM] + [signal.SIGHUP] * (signal.getsignal(signal.SIGHUP) != signal.SIG_IGN)
+    for number in ending:
+        signal.signal(number, lambda number, _: sys.exit(128 + number))
     try:
         return run(words)
     except Refused as refused:

@@ -11,6 +11,7 @@ HOME = "HOME"
 # options of bwrap that are followed by a place outside
 BINDS = ("--bind", "--bind-try", "--dev-bind", "--dev-bind-try", "--ro-bind", "--ro-bind-try")
 OUTSIDE = "run it outside, or in one that has him and his groups"
+AS_ROOT = "the image's user is root, and so are you: it would have root's rights here; run this as another user, or say --as-caller"
 
 
 def is_text(value):
@@ -70,11 +71,11 @@ class RunConfig:
         return one_line("the image's environment has entries that are not NAME=VALUE, left out here: %s"
                         % " ".join(map(shlex.quote, found)))
 
-    def words(self):
+    def words(self, otherwise=""):
         """The words of the program that the image starts."""
         found = self.entry_point + self.command
         if not found:
-            raise Refused("the image says neither an entry point nor a command")
+            raise Refused("the image says neither an entry point nor a command" + otherwise)
         return found
 
 
@@ -179,28 +180,39 @@ def hold_reached(options, user):
                           % (shown(os.fsencode(place)), user.uid, user.gid, shown(os.fsencode(closed))))
 
 
-def renumbered(user, caller):
-    """The words of bwrap by which the caller's own rights have the user's numbers in the sandbox."""
-    if caller[0] == 0 and not user_namespace.is_callers():
+def run_as(user, caller, as_caller):
+    """The words before bwrap, and those of bwrap, that make the program the user's, or leave it the
+    caller's own rights under the user's numbers. Root's rights it gets only if root says so, and
+    without capabilities."""
+    is_root = caller[0] == 0 and not user_namespace.is_callers()
+    if is_root and user.uid == 0:
+        if not as_caller:
+            raise Refused(AS_ROOT)
+        return become(user, caller), ["--cap-drop", "ALL"]
+    if not as_caller:
+        return become(user, caller), []
+    if is_root:
         raise Refused("--as-caller would give root's rights to the image's user; leave it out")
-    return ["--unshare-user", "--uid", str(user.uid), "--gid", str(user.gid)]
+    return [], ["--unshare-user", "--uid", str(user.uid), "--gid", str(user.gid)]
 
 
-def bwrap_words(it, user, caller, options, as_caller):
-    """A whole command of bwrap: these options, then environment, folder and program of the image,
-    run as its user, whose home is HOME unless the image says another. No word of the image is taken
-    as an option."""
-    words = [] if as_caller else become(user, caller)
+def bwrap_words(it, user, caller, asked):
+    """A whole command of bwrap: the user, environment and folder of the image, then the options that
+    are asked for, which thus have the last word, and the image's program or the command that is asked
+    for. HOME is the user's home unless the image says another. No word of the image is taken as an
+    option."""
+    program = asked.command or it.words("; behind -- stands a command to run instead")
+    words, own = run_as(user, caller, asked.as_caller)
     if words:
-        hold_open(options, user)
-        hold_reached(options, user)
-    words += ["bwrap", *options, *(renumbered(user, caller) if as_caller else []), "--clearenv"]
+        hold_open(asked.options, user)
+        hold_reached(asked.options, user)
+    words += ["bwrap", *own, "--clearenv"]
     variables = it.variables()
     if HOME not in dict(variables):
         variables.insert(0, (HOME, user.home))
     for name, value in variables:
         words += ["--setenv", name, value]
-    return [*words, "--chdir", it.folder, "--", *it.words()]
+    return [*words, "--chdir", it.folder, *asked.options, "--", *program]
 
 
 def podman_words(it):

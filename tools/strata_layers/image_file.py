@@ -1,4 +1,5 @@
 """`image`: an image of a folder, or of an archive of tar on standard input."""
+import contextlib
 import os
 import stat
 
@@ -8,6 +9,8 @@ from strata_format.refused import Refused, shown
 from strata_layers.image_maker import image_of_archive, image_of_folder
 
 PASSING = ".strata-"
+# behind an image's name, the name of its tree
+TREE = ".verity"
 STANDARD_INPUT = "-"
 ARCHIVE_HINT = "a tar archive goes to standard input: `strata-layers image - IMAGE < ARCHIVE`"
 # the letters that packed data begin with, and how many bytes are read to see them
@@ -34,6 +37,12 @@ class Heard:
         is_bzip2 = self.front.startswith(BZIP2) and self.front[4:10] in BZIP2_NEXT
         return "bzip2" if is_bzip2 else None
 
+    def is_other(self):
+        """Whether these bytes, which are not packed, begin no archive: an empty one begins with zeros."""
+        from strata_layers.tars import is_sum_right  # a folder needs none of it
+        is_tar = len(self.front) == FRONT and (not any(self.front) or is_sum_right(self.front))
+        return not self.packing() and not is_tar
+
     def read(self, size):
         data, self.front = self.front[:size], self.front[size:]
         data = data or self.file.read(size)
@@ -51,13 +60,18 @@ def archive_read(file, progress):
     other = heard.other_packing()
     if other is not None:
         raise Refused("standard input is compressed with %s: pass it through `%s -dc` first" % (other, other))
+    if heard.is_other():
+        raise Refused("standard input is no tar archive")
     return Unpacked(heard, heard.packing(), heard=progress.unpack)
 
 
 def check_aim(path):
     """Sees that nothing but a file would be replaced."""
     try:
-        if not stat.S_ISREG(os.lstat(path).st_mode):
+        mode = os.lstat(path).st_mode
+        if stat.S_ISLNK(mode):
+            raise Refused("%s: is a symbolic link: name the file that is to be replaced" % shown(os.fsencode(path)))
+        if not stat.S_ISREG(mode):
             raise Refused("%s: exists and is not a file" % shown(os.fsencode(path)))
     except FileNotFoundError:
         pass
@@ -112,3 +126,11 @@ def keep_image(path, lost, write):
         write(new.file, progress)
         lost.settle()
         new.keep(folder, os.path.basename(path))
+        remove_tree(folder, os.path.basename(path) + TREE)
+
+
+def remove_tree(folder, name):
+    """Removes a tree, which is of the image that was replaced."""
+    with contextlib.suppress(FileNotFoundError):
+        if stat.S_ISREG(os.stat(name, dir_fd=folder, follow_symlinks=False).st_mode):
+            os.unlink(name, dir_fd=folder)

@@ -20,6 +20,7 @@ NUMBER_MOST = (1 << 32) - 2
 # a user's number, his group's, those of his other groups, and the path of his home
 User = collections.namedtuple("User", "uid gid groups home")
 ROOT = 0, 0
+FILES = {"user": "passwd", "group": "group"}
 
 
 def rows_of(data, least):
@@ -45,6 +46,8 @@ def found_row(rows, word):
 def number_of(row, word, what):
     """The number of a row, or of a word that has none."""
     number = number_in(row[2] if row is not None else word)
+    if number is None and row is not None:
+        raise Refused("the image's /etc/%s: %s %s has the number %s, which is none" % (FILES[what], what, shown(word), shown(row[2])))
     if number is None:
         raise Refused("the image has no %s %s" % (what, shown(word)))
     return number

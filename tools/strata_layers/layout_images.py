@@ -9,11 +9,10 @@ import collections
 import re
 
 from strata_format.refused import Refused, shown
-from strata_layers.layouts import INDEXES, LAYERS_MOST, MANIFESTS, NESTED_MOST, PACKED, descriptor_of, field
+from strata_layers.layouts import INDEXES, LAYERS_MOST, MANIFESTS, NESTED_MOST, PACKED, ROMFS, descriptor_of, field
 from strata_layers.store_images import VERITY
 from strata_layers.verity import DIGEST
 
-ROMFS = "application/vnd.strata.layer.v1.romfs"
 # media types of layers that are images of romfs, each with how it is packed
 PACKED_ROMFS = {ROMFS: "", ROMFS + "+gzip": "gzip", ROMFS + "+zstd": "zstd"}
 

@@ -36,6 +36,8 @@ PACKED = {
     DOCKER + "image.rootfs.diff.tar": "", DOCKER + "image.rootfs.diff.tar.gzip": "gzip",
     DOCKER + "image.rootfs.diff.tar.zstd": "zstd", DOCKER + "image.rootfs.foreign.diff.tar.gzip": "gzip",
 }
+# layers that are images of romfs, packed or not
+ROMFS = "application/vnd.strata.layer.v1.romfs"
 DIGESTS = {"sha256": 64, "sha512": 128}
 REFERENCE = "org.opencontainers.image.ref.name"
 JSON_MOST, NESTED_MOST, LAYERS_MOST = 4 << 20, 16, 128
@@ -312,8 +314,15 @@ class Layout:
             raise Refused("%s: %d layers, allowed 1 to %d" % (where, len(found), LAYERS_MOST))
         for it in found:
             if it.media not in PACKED:
-                raise Refused("%s: no layer of files, but %s" % (where, shown(it.media)))
+                raise Refused("%s: no layer of files, but %s%s" % (where, shown(it.media), self.pulled(it)))
         return found
+
+    def pulled(self, it):
+        """What helps if a layer is an image already, or nothing."""
+        if not it.media.startswith(ROMFS):
+            return ""
+        return "; `strata-layers pull oci:%s NAME` brings such an image into the store, and strata-mount mounts NAME" % shown(
+            os.fsencode(self.folder))
 
 
 def split_at_folder(word):

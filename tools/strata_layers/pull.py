@@ -8,7 +8,7 @@ from strata_layers.fetch import TAG, TRANSPORT, fetched, split_reference
 from strata_layers.layout_images import digests_in, image_of
 from strata_layers.layouts import digest_of, parsed
 from strata_layers.open_layout import open_layout
-from strata_layers.store_images import LATEST, StoredImage, count_of, put_image, split_image
+from strata_layers.store_images import LATEST, StoredImage, count_of, image_in, names, put_image, split_image
 from strata_layers.store_layers import Maker
 from strata_layers.transports import layout_hint
 
@@ -21,10 +21,29 @@ def name_of(source, tag):
     """The name that an image gets where none is said: the last name of the layout's path, with its
     tag; of an image of a registry its name there, without the host."""
     if source.startswith(TRANSPORT):
-        name, rest = split_reference(source[len(TRANSPORT):])
-        _, slash, path = name.partition("/")
-        return "%s:%s" % (path if slash else name, rest[1:] if rest.startswith(":") else LATEST)
+        name, said = registry_name(source)
+        return "%s:%s" % (name, said or LATEST)
     return "%s:%s" % (os.path.basename(os.path.realpath(source)), tag or LATEST)
+
+
+def registry_name(source):
+    """The name of an image in a registry, without the host, and its tag, which may stand before a
+    digest; None where there is none."""
+    name, rest = split_reference(source[len(TRANSPORT):].partition("@")[0])
+    _, slash, path = name.partition("/")
+    return path if slash else name, rest[1:] or None
+
+
+def is_bare_digest(source):
+    """Whether a digest alone says which image of a registry is meant."""
+    return source.startswith(TRANSPORT) and "@" in source and registry_name(source)[1] is None
+
+
+def hold_name(store, name, digest, source):
+    """Looks that a name which nobody said takes the place of no other image."""
+    if name in names(store) and image_in(store, name).manifest != digest:
+        raise Refused("%s: the store has another image of this name; say one: `strata-layers pull %s NAME`"
+                      % (name, shown(os.fsencode(source))))
 
 
 def checked_name(word):
@@ -61,10 +80,13 @@ def pull(store, source, name, platform, lost):
     if not source.startswith((LAYOUT, TRANSPORT)):
         raise Refused("%s: oci:LAYOUT[:TAG] or docker://HOST/NAME[:TAG] is wanted%s"
                       % (shown(os.fsencode(source)), layout_hint(source)))
+    is_unsaid = name is None and is_bare_digest(source)
     name = checked_name(name or name_said(source))
     with store.locked():
         maker = Maker(store, lost, checks_archives=True)
         with opened(maker, source, platform) as (layout, found, digest, data):
+            if is_unsaid:
+                hold_name(store, name, digest, source)
             image = image_of(layout, found, platform)
             with Progress("layers", sum(it.size for it in image.layers)) as progress:
                 layout.heard, layout.unpacked = progress.add, progress.unpack

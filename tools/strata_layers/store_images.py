@@ -247,7 +247,11 @@ def image_meant(word, store):
     is an image; else an existing file comes before an image."""
     if word.startswith("image:"):
         return word.partition(":")[2]
-    if store is None or is_file(word):
+    if is_file(word):
+        return None
+    if PIN + DIGEST in word:
+        split_pin(word)
+    if store is None:
         return None
     try:
         name, digest = split_pin(word)
@@ -277,17 +281,26 @@ def store_for(words, place):
     """The store at a place, where words of a mount may mean one of its images; else None. One that
     others may write to is refused as soon as it might be meant."""
     asked = [word.partition(":")[2] for word in words if word.startswith("image:")]
-    if not asked and (all(map(is_file, words)) or not os.path.isdir(place)):
+    others = [it for it in words if not is_file(it)]
+    if not asked and not others:
         return None
-    if not os.path.isdir(place):
-        raise NoImage("%s: no such image in %s" % (asked[0], shown(place)))
     try:
-        return Store(place)
+        os.stat(place)
+        if os.path.isdir(place):
+            return Store(place)
+    except PermissionError:
+        if asked or any(may_be_stored(it) and not it.endswith(".romfs") for it in others):
+            raise OSError(0, "permission denied", place) from None
+        return None
+    except (FileNotFoundError, NotADirectoryError):
+        pass
     except (Refused, OSError) as fault:
-        is_named = any(may_be_stored(it) for it in words if not is_file(it))
-        if asked or is_named and isinstance(fault, Shared):
+        if asked or any(map(may_be_stored, others)) and isinstance(fault, Shared):
             raise
         return None
+    if asked:
+        raise NoImage("%s: no such image in %s" % (asked[0], shown(place)))
+    return None
 
 
 def mounted_words(words, place=None, is_verified=False):

@@ -7,7 +7,7 @@ from strata_format import ends
 from strata_format.refused import Refused, one_line
 from strata_format.version import command
 from strata_layers.store import default_place
-from strata_layers.verb_words import WORDS
+from strata_layers.verb_words import WORDS, has_name
 
 HELP = {
     "image": "Makes a romfs image of a directory, or of a tar archive on standard input (-), with"
@@ -45,6 +45,8 @@ HELP = {
 HELP_WIDTH = 60
 # options of one field: of these at most one may be said
 CHOSEN = "store_const"
+# behind it stands a command
+END = "--"
 
 
 def width_of_help():
@@ -85,16 +87,41 @@ def parsed(verb, words):
         if name == "--store":
             more["default"] = default_place()
         (chosen if how.get("action") == CHOSEN else it).add_argument(name, **{**how, **more})
-    asked = it.parse_args(words)
-    hold_options(it, asked)
+    if not is_chosen:
+        return it.parse_args(words)
+    front, behind = split_command([it for it in table if it[0].startswith("-")], words)
+    asked = it.parse_args(front)
+    asked.command = behind[1:]
+    hold_options(it, asked, behind[:1])
+    hold_own(it, asked.options, [name for name, _ in table])
     return asked
 
 
-def hold_options(parser, asked):
-    """Looks that options of bwrap, and what says how it runs, stand where bwrap is asked for."""
-    if getattr(asked, "form", "bwrap") == "bwrap":
+def split_command(options, words):
+    """The words before the `--` that stands behind a name, and those from there on."""
+    ends = (at for at, word in enumerate(words) if word == END)
+    at = next((at for at in ends if has_name(options, words[:at])), len(words))
+    return words[:at], words[at:]
+
+
+def hold_options(parser, asked, end):
+    """Looks that options of bwrap and a command, and what says how it runs, stand where bwrap is
+    asked for."""
+    if asked.form == "bwrap":
+        if end and not asked.command:
+            parser.error("the command after -- is missing")
         return
-    if asked.options:
-        parser.error("%s: after NAME[:TAG] only options of bwrap are allowed, with --bwrap before it" % asked.options[0])
+    behind = asked.options + end
+    if behind:
+        parser.error("%s: after NAME[:TAG] only options of bwrap are allowed, with --bwrap before it" % behind[0])
     if asked.as_caller:
         parser.error("argument --as-caller: only with --bwrap")
+
+
+def hold_own(parser, options, names):
+    """Looks that none of the verb's own options stands among those of bwrap, nor a command."""
+    for word in options:
+        if word.partition("=")[0] in ("-h", "--help", *names):
+            parser.error("%s: stands before NAME[:TAG], after which are options of bwrap" % word)
+    if options and not options[0].startswith("-"):
+        parser.error("%s: no option of bwrap; a command stands after --" % options[0])

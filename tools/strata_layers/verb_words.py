@@ -45,7 +45,8 @@ WORDS = {
     "images": [STORE], "verify": [STORE], "prune": [STORE], "remove": [STORE, NAME],
     "config": [STORE, NAME, ("--bwrap", {
         "dest": "form", "action": "store_const", "const": "bwrap",
-        "help": "print a command of bwrap, with the OPTIONs after NAME"}),
+        "help": "print a command of bwrap, with the OPTIONs after NAME, and the command after --"
+                " instead of the image's own"}),
         ("--podman", {"dest": "form", "action": "store_const", "const": "podman",
                       "help": "print podman run's arguments, before --rootfs"}),
         ("--as-caller", {
@@ -84,11 +85,9 @@ def read(verb, words):
     to load it takes longer than a small image."""
     options = [it for it in WORDS[verb] if it[0].startswith("-")]
     others = [it for it in WORDS[verb] if not it[0].startswith("-")]
-    flags = {name: field_of(name, how) for name, how in options if "action" in how}
-    valued = {name: field_of(name, how) for name, how in options if "action" not in how}
     least = sum(how.get("nargs") != MAYBE for _, how in others)
     try:
-        reader = Reader(flags, valued).read(words)
+        reader = reader_of(options).read(words)
         if any(how.get("nargs") in SEVERAL for _, how in others):
             return None
         if not least <= len(reader.names) <= len(others):
@@ -96,6 +95,20 @@ def read(verb, words):
         return filled(Asked(WORDS[verb]), reader, options, others)
     except (WrongWords, Refused):
         return None
+
+
+def reader_of(options):
+    flags = {name: field_of(name, how) for name, how in options if "action" in how}
+    valued = {name: field_of(name, how) for name, how in options if "action" not in how}
+    return Reader(flags, valued)
+
+
+def has_name(options, words):
+    """Whether a name is among words: what is no option of the verb stands behind one."""
+    try:
+        return bool(reader_of(options).read(words).names)
+    except WrongWords:
+        return True
 
 
 def filled(asked, reader, options, others):

@@ -7,7 +7,7 @@ import os
 from strata_format import ends
 from strata_format.refused import Refused, bytes_of
 from strata_format.version import command
-from strata_format.words import quoted
+from strata_format.words import no_option, quoted
 from strata_layers.lost import Lost
 from strata_layers.verb_words import read
 
@@ -50,7 +50,7 @@ def run_image(asked):
     lost = Lost(asked.leave_out, asked.fail_on_lost, asked.no_xattrs)
     write_image_file(asked.folder, asked.image, lost, asked.upper)
     told(lost)
-    print_line(quoted([command("mount"), asked.image, "DIR"]), "the image is made")
+    print_line(quoted([command("mount"), no_option(asked.image), "DIR"]), "the image is made")
     return 0
 
 
@@ -149,7 +149,7 @@ def sandbox_words(store, name, it, asked):
         return podman_words(it)
     caller = os.geteuid(), os.getegid()
     user = image_user(store, name, it.user, caller)
-    return bwrap_words(it, user, caller, asked.options, asked.as_caller)
+    return bwrap_words(it, user, caller, asked)
 
 
 def run_attributes(asked):

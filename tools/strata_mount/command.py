@@ -82,6 +82,8 @@ SOURCE_MOST = 1000
 
 def plan_of(read, name):
     """The plan that arguments as they were read say."""
+    if "json" in read.said:
+        raise WrongWords("argument --json: only with --list")
     said = {field: it if it is True else it[-1] for field, it in read.said.items() if field not in REPEATED}
     plan = Plan(name=name, digests=digests_of(read.said.get("digests", [])), **said)
     try:
@@ -142,6 +144,8 @@ def main(words, name):
         if "version" in read.said:
             return ends.tell(name, "%s %s\n" % (name, version()))
         if "list" in read.said:
+            if read.names:
+                raise WrongWords("argument --list: not with IMAGE.. or DIR")
             from strata_mount import listing
             return ends.tell(name, listing.text("json" in read.said))
         plan = plan_of(read, name)

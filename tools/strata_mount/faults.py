@@ -29,6 +29,7 @@ TAR_MOST = 10000
 FILES_BESIDE = 16
 MAKE = "`strata-layers image FOLDER IMAGE` makes an image from a directory"
 OF_LAYOUT = "`strata-layers LAYOUT FOLDER` makes images of its layers"
+MENDED = "; `strata-layers verify` makes a tree again, or sets a damaged image aside for `strata-layers pull` to bring"
 BROKEN_IMAGE = "the file is damaged or was badly made: make it again"
 # what each rule means, in the order in which rules are named
 RULES = {
@@ -51,7 +52,7 @@ RULES = {
     "major too large": "a device's major number is above 4,095",
     "bad header sum": "the checksum of a header is wrong; only --strict verifies it",
     "too deep": "a path has more than 512 names",
-    "bad attributes": "the owners, modes and times behind the image are truncated or were changed; only --attributes reads them",
+    "bad attributes": "the owners, modes and times behind the image are truncated or were changed",
 }
 
 
@@ -118,9 +119,9 @@ def unsealed(path):
     try:
         front_of(path + TREE, 1)
     except OSError as fault:
-        how = "pull the image again" if split_blob(path)[0] else "`strata-layers seal` makes the tree of an image"
+        how = "`strata-layers verify` makes it again" if split_blob(path)[0] else "`strata-layers seal` makes the tree of an image"
         return "its tree %s: %s; %s" % (shown(os.fsencode(path + TREE)), fault.strerror.lower(), how)
-    how = "; run `strata-layers verify`, and pull again" if split_blob(path)[0] else ""
+    how = MENDED if split_blob(path)[0] else ""
     return "the image or its tree was changed, or the digest is another image's" + how
 
 

@@ -17,6 +17,8 @@ from strata_mount.processes import Bell, found_program, hold_descriptors, start
 # to begin; and small ones it joins at once, instead of keeping each apart for one of its size.
 MEMORY = {"MALLOC_MMAP_THRESHOLD_": str(1 << 14),
           "GLIBC_TUNABLES": "glibc.malloc.tcache_count=0:glibc.malloc.mxfast=0"}
+# all that the server gets of this environment, which may hold secrets
+KEPT = "PATH", "LD_LIBRARY_PATH"
 RELAY = os.path.join(os.path.dirname(os.path.realpath(__file__)), "relay.py")
 INTERRUPTED = 130
 
@@ -70,7 +72,7 @@ def served(plan, device, errors, counts, confinement):
         ends = [device, device, 2 if plan.debug else errors.fileno()]
         shown = None if plan.is_relayed() else shown_name(plan)
         words += serve_words(plan)
-        environment = {**MEMORY, **os.environ}
+        environment = {**MEMORY, **{it: os.environ[it] for it in KEPT if it in os.environ}}
         return start(words, ends, numbers, lambda: prepare(confinement), shown, environment)
     finally:
         os.close(device)
@@ -124,6 +126,8 @@ def status_of(server, errors, plan, bell):
     errors.seek(0)
     text = errors.read().decode(errors="replace")
     ends.write(text)
+    if status > 0 and not text:
+        plan.say("%s ended with status %d, without a line" % (one_line(plan.program), status))
     if status > 0:
         from strata_mount import faults
         for line in faults.explained(text, plan.images, plan.store):

@@ -3,7 +3,9 @@ processes."""
 import errno
 import os
 
+from strata_format.refused import one_line
 from strata_format.system import called, libc
+from strata_format.words import quoted
 from strata_mount.device import take_away
 
 NAME = "strata"
@@ -30,8 +32,14 @@ def opened_own(place, name, above=None):
     if found.st_uid != os.geteuid() or found.st_mode & OTHERS_WRITE:
         os.close(number)
         why = "shared mounts are noted here, so it must be your own, and nobody else may write in it"
-        raise OSError(0, why, place)
+        raise OSError(0, why + closed_by(found, place), place)
     return number
+
+
+def closed_by(found, place):
+    """What closes this user's own folder to others' writes; nothing of another's."""
+    mode = "755" if place == "/run" else "700"
+    return "; `chmod %s %s` sees to that" % (mode, one_line(quoted([place]))) if found.st_uid == os.geteuid() else ""
 
 
 def opened_notes(makes=True):

@@ -193,6 +193,9 @@ def hold_unshared(plan):
     """Looks that a stack may be mounted that is not shared: strata says what is wrong with an
     image, and what is no file can be read by one mount alone. Without a folder it may not."""
     if plan.is_printed:
+        *lower, last = plan.images
+        if lower and os.path.isdir(last):
+            raise OSError(0, "is a directory; --print takes no DIR, and prints one", last)
         for path in plan.files():
             if not stat.S_ISREG(os.stat(path).st_mode):
                 raise OSError(0, "is not a file and cannot be shared", path)
