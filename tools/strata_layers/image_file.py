@@ -1,5 +1,4 @@
 """`image`: an image of a folder, or of an archive of tar on standard input."""
-import contextlib
 import os
 import stat
 
@@ -17,6 +16,15 @@ ARCHIVE_HINT = "a tar archive goes to standard input: `strata-layers image - IMA
 LETTERS, FRONT = {"gzip": b"\x1f\x8b", "zstd": b"\x28\xb5\x2f\xfd"}, 512
 # the same of what is not unpacked here; in bzip2 a digit follows, and a block or the end
 XZ, BZIP2, BZIP2_NEXT = b"\xfd7zXZ\0", b"BZh", (b"1AY&SY", b"\x17rE8P\x90")
+
+
+def is_first_block(data):
+    """Whether bytes may be the first block of an archive."""
+    from strata_layers.tars import is_sum_right  # a folder needs none of it
+    try:
+        return len(data) == FRONT and (not any(data) or is_sum_right(data))
+    except Refused:
+        return False
 
 
 class Heard:
@@ -39,9 +47,7 @@ class Heard:
 
     def is_other(self):
         """Whether these bytes, which are not packed, begin no archive: an empty one begins with zeros."""
-        from strata_layers.tars import is_sum_right  # a folder needs none of it
-        is_tar = len(self.front) == FRONT and (not any(self.front) or is_sum_right(self.front))
-        return not self.packing() and not is_tar
+        return not self.packing() and not is_first_block(self.front)
 
     def read(self, size):
         data, self.front = self.front[:size], self.front[size:]
@@ -131,6 +137,8 @@ def keep_image(path, lost, write):
 
 def remove_tree(folder, name):
     """Removes a tree, which is of the image that was replaced."""
-    with contextlib.suppress(FileNotFoundError):
+    try:
         if stat.S_ISREG(os.stat(name, dir_fd=folder, follow_symlinks=False).st_mode):
             os.unlink(name, dir_fd=folder)
+    except FileNotFoundError:
+        pass
