@@ -6,6 +6,7 @@ the formats' magic numbers. It needs root, namespaces, an overlay and /dev/fuse;
 The status is 0 where no check fails.
 """
 import os
+import signal
 import sys
 import tempfile
 
@@ -25,6 +26,8 @@ MOUNTING = (
 
 
 def main(program, wanted):
+    # a program leaves SIGINT ignored where it was, as in the background of a script, and is sent one here
+    signal.signal(signal.SIGINT, signal.default_int_handler)
     passed = failed = 0
     with tempfile.TemporaryDirectory(prefix="installed-") as scratch:
         no_root = apart(lambda root: "", program, scratch)

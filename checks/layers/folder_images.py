@@ -346,16 +346,17 @@ def test_name_like_an_option(room):
 def test_closed_terminal(room):
     """SIGHUP ends it as SIGTERM does, and leaves nothing; under nohup it does not."""
     made = archive([file("large", bytes(HELD_MOST + LARGE))])
-    for ignored, wanted in ((False, 129), (True, 1)):
-        words = [*["nohup"] * ignored, sys.executable, "-B", TOOLS + "/layers.py", "image", "-", room.name()]
-        run = subprocess.Popen(words, stdin=subprocess.PIPE, stdout=subprocess.DEVNULL, stderr=subprocess.DEVNULL)
+    for action, wanted in ((signal.SIG_DFL, 129), (signal.SIG_IGN, 1)):
+        words = [sys.executable, "-B", TOOLS + "/layers.py", "image", "-", room.name()]
+        run = subprocess.Popen(words, stdin=subprocess.PIPE, stdout=subprocess.DEVNULL, stderr=subprocess.DEVNULL,
+                               preexec_fn=functools.partial(signal.signal, signal.SIGHUP, action))
         run.stdin.write(made[:-LARGE])
         run.stdin.flush()
         while not any(it.startswith(".strata-") for it in os.listdir(room.path)):
             expect(run.poll() is None, "it has ended")
             time.sleep(0.01)
         run.send_signal(signal.SIGHUP)
-        if ignored:
+        if action == signal.SIG_IGN:
             run.stdin.close()
         status = run.wait()
         run.stdin.close()
