@@ -81,10 +81,11 @@ impl<A: Allocator> Kept<A> {
         let Kept {
             mut blocks,
             mut bytes,
-            stretches,
+            mut stretches,
             ..
         } = self;
         cut(&stretches, &mut blocks, &mut bytes, count);
+        stretches.keep_first(&blocks);
         blocks.shrink_to_fit();
         bytes.shrink_to_fit();
         Kept {

@@ -149,6 +149,21 @@ impl<A: Allocator> Stretches<A> {
         Ok(())
     }
 
+    /// Drops what is noted beyond these numbers, the first of those that were noted, with its memory
+    /// if the allocator grants a smaller one.
+    pub(crate) fn keep_first(&mut self, numbers: &[u32]) {
+        let last = match numbers.last() {
+            Some(last) => *last,
+            None => 0,
+        };
+        if let Some(part) = part_of(&self.all, self.digits, last) {
+            self.notes.truncate(part + 2);
+        }
+        self.all.truncate(without(last, self.digits) as usize + 1);
+        self.notes.shrink_to_fit();
+        self.all.shrink_to_fit();
+    }
+
     /// Numbers, with their notes.
     pub(crate) fn beside<'a>(&'a self, numbers: &'a [u32]) -> Numbers<'a>
         ensures { result.all.now ≡ numbers.now }

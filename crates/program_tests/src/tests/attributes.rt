@@ -153,7 +153,7 @@ fn refused_memory_is_told_of_attributes(rt: HostRuntime) -> Result<(), Fail> {
         "{in_memory:?}"
     );
     assert!(rt;
-        in_files.iter().all(|it| matches!(it, Ok((20.., 3)))),
+        in_files.iter().all(|it| matches!(it, Ok((20.., 4)))),
         "{in_files:?}"
     );
     Ok(())
