@@ -14,9 +14,11 @@ from strata_mount.processes import Bell, found_program, hold_descriptors, start
 
 # The C library keeps freed memory for what it is asked for next, until the end. A block of this many
 # bytes and more it gives back, so that a server keeps what it needs to serve, and not what it needed
-# to begin; and small ones it joins at once, instead of keeping each apart for one of its size.
-MEMORY = {"MALLOC_MMAP_THRESHOLD_": str(1 << 14),
-          "GLIBC_TUNABLES": "glibc.malloc.tcache_count=0:glibc.malloc.mxfast=0"}
+# to begin; small ones it joins at once, instead of keeping each apart for one of its size; and it
+# takes no more than it is asked for.
+MEMORY = {"MALLOC_MMAP_THRESHOLD_": str(1 << 13),
+          "GLIBC_TUNABLES": "glibc.malloc.tcache_count=0:glibc.malloc.mxfast=0:"
+                            "glibc.malloc.top_pad=0"}
 # all that the server gets of this environment, which may hold secrets
 KEPT = "PATH", "LD_LIBRARY_PATH"
 RELAY = os.path.join(os.path.dirname(os.path.realpath(__file__)), "relay.py")
