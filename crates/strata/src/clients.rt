@@ -14,6 +14,7 @@ ghost use Rattle.strata.specs.Ending.{AreNew};
 ghost use Rattle.strata.specs.Sessions.{accepting, fault_of, status_at, EndWith, IsSession, ServedSession};
 
 use crate::faults::Fault;
+use crate::host::Host;
 use devices::{Clients, Contents, Listening, Sink, Source, Spout, Tap};
 use node_reader::Table;
 use serve_core::{
@@ -46,74 +47,98 @@ pub fn sessions<R: Threads + Sync, A: Allocator + Copy + Send + Sync, E: Write>(
     ensures { (after : Accepts)
         × EndWith A Session.Fresh (in_memory table.now) count result (accepting no_accepts after) }
 {
-    let mut clients = Listening::new(listener);
-    sessions_from(
-        rt,
-        alloc,
-        Served::held(table),
-        Session::Fresh,
-        &mut clients,
-        count,
+    let service = Service {
+        host: Host { rt, alloc },
+        served: Served::held(table),
+        first: Session::Fresh,
         plan,
-        faults,
-    )
+    };
+    let mut clients = Listening::new(listener);
+    service.sessions_from(&mut clients, count, faults)
 }
 
-/// The same for any clients, over a table and its files, in streams that begin in the session
-/// `first`, as [`serve_core::run_from`] serves them; no lookups are counted. A session has one
-/// client, and no others are accepted.
-pub fn sessions_from<
-    R: Threads + Sync,
-    A: SharedAllocator,
-    D: Contents + Sync,
-    C: Clients,
-    E: Write,
->(
-    rt: &R,
-    alloc: A,
-    served: Served<'_, A, D>,
-    first: Session,
-    clients: &mut C,
-    count: u32,
-    plan: Plan,
-    faults: &mut E,
-) -> u8
-    requires clients { (C.counts clients.old).clients < 2 ^ 63 }
-    requires failures { (C.counts clients.old).failures < 2 ^ 63 }
-    ensures { EndWith A first (sourced_by D.source served.entry) count result
-        (accepting (C.counts clients.old) (C.counts clients.new)) }
-{
-    let mut status = 0;
-    for number in 0..count {
-        let Ok(client) = clients.accept() else {
-            return Fault::Accept.end(faults);
-        };
-        let ended = serve_session(rt, alloc, served, first, client, number + 1, plan, faults);
-        if status == 0 {
-            status = ended;
+/// What the client of each session is served, and how.
+#[derive(Drop)]
+pub struct Service<'s, R, A: Allocator, D> {
+    pub host: Host<'s, R, A>,
+    pub served: Served<'s, A, D>,
+    /// The session in which each stream begins.
+    pub first: Session,
+    pub plan: Plan,
+}
+
+impl<R: Threads + Sync, A: SharedAllocator, D: Contents + Sync> Service<'_, R, A, D> {
+    /// Serves `count` sessions as [`sessions`] does, to any clients, each stream as
+    /// [`serve_core::run_from`] serves it; no lookups are counted. A session has one client, and no
+    /// others are accepted.
+    pub fn sessions_from<C: Clients, E: Write>(
+        &self,
+        clients: &mut C,
+        count: u32,
+        faults: &mut E,
+    ) -> u8
+        requires clients { (C.counts clients.old).clients < 2 ^ 63 }
+        requires failures { (C.counts clients.old).failures < 2 ^ 63 }
+        ensures { EndWith A self.now.first (sourced_by D.source self.now.served) count result
+            (accepting (C.counts clients.old) (C.counts clients.new)) }
+    {
+        let mut status = 0;
+        for number in 0..count {
+            let Ok(client) = clients.accept() else {
+                return Fault::Accept.end(faults);
+            };
+            let ended = self.serve_session(client, number + 1, faults);
+            if status == 0 {
+                status = ended;
+            }
         }
+        status
     }
-    status
-}
 
-// Serves the session with this number to a client, closes the connection, and returns the status.
-fn serve_session<R: Threads + Sync, A: SharedAllocator, D: Contents + Sync, E: Write>(
-    rt: &R,
-    alloc: A,
-    served: Served<'_, A, D>,
-    first: Session,
-    client: UnixStream,
-    session: u32,
-    plan: Plan,
-    faults: &mut E,
-) -> u8
-    ensures { (s : ServedSession A first (sourced_by D.source served.entry))
-        × (result ≡ status_at (fault_of session s.result)) }
-{
-    let mut source = Tap::new(&client);
-    let mut sink = Spout::new(&client);
-    let ended = serve_client(rt, alloc, served, first, &mut source, &mut sink, plan);
-    end_session(session, &ended, faults)
+    // Serves the session with this number to a client, closes the connection, and returns the
+    // status.
+    fn serve_session<E: Write>(&self, client: UnixStream, session: u32, faults: &mut E) -> u8
+        ensures { (s : ServedSession A self.now.first (sourced_by D.source self.now.served))
+            × (result ≡ status_at (fault_of session s.result)) }
+    {
+        let mut source = Tap::new(&client);
+        let mut sink = Spout::new(&client);
+        let ended = self.serve_client(&mut source, &mut sink);
+        end_session(session, &ended, faults)
+    }
+
+    // Serves a client until its stream ends or stops, between the two sides of its connection.
+    fn serve_client<'c>(
+        &self,
+        source: &mut Tap<&'c UnixStream>,
+        sink: &mut Spout<&'c UnixStream>,
+    ) -> Result<Done<A>, StreamFault>
+        requires { AreNew (devices (⟦<Tap<&'c UnixStream> as Source>⟧.state source.old)
+            (⟦<Spout<&'c UnixStream> as Sink>⟧.state sink.old)) }
+        ensures { Does (λ t.
+            IsSession self.now.first (sourced_by D.source self.now.served) 0 t result)
+            (devices (⟦<Tap<&'c UnixStream> as Source>⟧.state source.old)
+            (⟦<Spout<&'c UnixStream> as Sink>⟧.state sink.old))
+            (devices (⟦<Tap<&'c UnixStream> as Source>⟧.state source.new)
+            (⟦<Spout<&'c UnixStream> as Sink>⟧.state sink.new)) }
+    {
+        let terms = Terms {
+            first: self.first,
+            plan: self.plan,
+            turns: MAX_TURNS,
+            // no line names a file of balances for a session
+            counted: Counted::NoNodes,
+            gate: &FreePass,
+        };
+        run_from(
+            self.host.rt,
+            self.host.alloc,
+            self.served,
+            source,
+            sink,
+            &terms,
+        )
+    }
 }
 
 // Prints why the session with this number stopped, if it did, and returns its status.
@@ -131,33 +156,4 @@ fn end_session<A: Allocator, E: Write>(
             Fault::InSession { session, stop }.end(faults)
         }
     }
-}
-
-// Serves a client until its stream ends or stops, between the two sides of its connection.
-fn serve_client<'c, R: Threads + Sync, A: SharedAllocator, D: Contents + Sync>(
-    rt: &R,
-    alloc: A,
-    served: Served<'_, A, D>,
-    first: Session,
-    source: &mut Tap<&'c UnixStream>,
-    sink: &mut Spout<&'c UnixStream>,
-    plan: Plan,
-) -> Result<Done<A>, StreamFault>
-    requires { AreNew (devices (⟦<Tap<&'c UnixStream> as Source>⟧.state source.old)
-        (⟦<Spout<&'c UnixStream> as Sink>⟧.state sink.old)) }
-    ensures { Does (λ t. IsSession first (sourced_by D.source served.entry) 0 t result)
-        (devices (⟦<Tap<&'c UnixStream> as Source>⟧.state source.old)
-        (⟦<Spout<&'c UnixStream> as Sink>⟧.state sink.old))
-        (devices (⟦<Tap<&'c UnixStream> as Source>⟧.state source.new)
-        (⟦<Spout<&'c UnixStream> as Sink>⟧.state sink.new)) }
-{
-    let terms = Terms {
-        first,
-        plan,
-        turns: MAX_TURNS,
-        // no line names a file of balances for a session
-        counted: Counted::NoNodes,
-        gate: &FreePass,
-    };
-    run_from(rt, alloc, served, source, sink, &terms)
 }

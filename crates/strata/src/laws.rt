@@ -1,4 +1,5 @@
-//! What the exit statuses mean, by what [`crate::command`] and [`crate::sessions_from`] promise.
+//! What the exit statuses mean, by what [`crate::command`] and [`crate::Service::sessions_from`]
+//! promise.
 
 ghost use Rattle.std.specs.Prelude.{◌≡◌, ◌≢◌, ◌≤◌, ◌⊎◌, ◌↔◌, ℕ, List, Bool, true, false, length, map, is_some, Option, Some, None, Ok, Err};
 ghost use Rattle.std.specs.List.{AllByRecursion};

@@ -1,12 +1,12 @@
 //! The program `strata`: FUSE requests answered over a stack of romfs images.
 //!
-//! [`command_as_read`] is the entire program over its command line, as [`line`] reads it, and its
-//! three standard streams: it runs the line by [`command_on_device`] if it says that the streams are
-//! an open `/dev/fuse`, otherwise by [`command_on_streams`], and returns the [`Ends`] that it ran
-//! between. [`command`] reads the line, too.
+//! [`Host::command_as_read`] is the entire program over its command line, as [`line`] reads it, and
+//! its three standard streams: it runs the line by [`Host::command_on_device`] if it says that the
+//! streams are an open `/dev/fuse`, otherwise by [`Host::command_on_streams`], and returns the
+//! [`Ends`] that it ran between. [`command`] reads the line, too.
 //! [`sessions`] serves the clients of a Unix socket that is already bound, one after another, and
-//! [`sessions_from`] those of any source of clients. [`faults`] has a line and an exit status for
-//! everything that can go wrong.
+//! [`Service::sessions_from`] those of any source of clients. [`faults`] has a line and an exit
+//! status for everything that can go wrong.
 //!
 //! `strata_words` reads the arguments, and `strata_images` does everything with images: their
 //! files, their table, and the commands `check` and `list`. This crate has the files of a stream,
@@ -21,6 +21,7 @@ mod clients;
 mod ends;
 pub mod faults;
 mod files;
+mod host;
 pub mod laws;
 mod listening;
 mod program;
@@ -28,8 +29,9 @@ mod serving;
 mod settings;
 mod version;
 
-pub use clients::{sessions, sessions_from};
+pub use clients::{Service, sessions};
 pub use ends::{Ends, Ran};
 pub use faults::Fault;
-pub use program::{command, command_as_read, command_on_device, command_on_streams};
+pub use host::Host;
+pub use program::command;
 pub use strata_words::{Line, LineFault, NoLine, line};

@@ -7,8 +7,9 @@ ghost use Rattle.strata.specs.Ending.{EndsAtSocket, IsNotBound};
 ghost use Rattle.strata.specs.Faults.{IsOfImages};
 ghost use Rattle.strata_images.specs.Images.{AreNotStacked, ArePrepared, HaveSources, are_whole, bytes_of, profile_of, sources_of};
 
-use crate::clients::sessions_from;
+use crate::clients::Service;
 use crate::faults::Fault;
+use crate::host::Host;
 use crate::settings::{first_of, plan_of};
 use devices::{Contents, Listening};
 use serve_core::{Served, SharedAllocator};
@@ -70,17 +71,14 @@ fn listen_at<R: Files + Net + Threads + Sync, A: SharedAllocator, D: Contents + 
         IfErr result (λ fault. IsNotBound line.now images fault) }
 {
     let listener = bind(rt, path)?;
-    let mut clients = Listening::new(&listener);
-    let status = sessions_from(
-        rt,
-        alloc,
+    let service = Service {
+        host: Host { rt, alloc },
         served,
-        first_of(line),
-        &mut clients,
-        line.sessions,
-        plan_of(line),
-        faults,
-    );
+        first: first_of(line),
+        plan: plan_of(line),
+    };
+    let mut clients = Listening::new(&listener);
+    let status = service.sessions_from(&mut clients, line.sessions, faults);
     let _ = fs::remove_file(rt, path);
     Ok(status)
 }

@@ -13,7 +13,7 @@ use std::fs;
 use std::fs::Files;
 use std::io::IsTerminal;
 use std::process::ExitCode;
-use strata::{Fault, command_as_read};
+use strata::{Fault, Host};
 use strata_words::{Line, NoLine, line, words};
 
 /// Freed blocks of up to this size are kept for later allocations.
@@ -54,12 +54,15 @@ fn main(rt: HostRuntime) -> ExitCode {
     keep_freed_blocks(alloc);
     let mut faults = rt.stderr();
     let input = rt.stdin();
+    let host = Host { rt: &rt, alloc };
     let status = match words(&rt) {
         Ok(words) => {
             let read = line_of(alloc, words.as_slice());
             match unfit_input(&rt, alloc, &read, input.is_terminal()) {
                 Some(fault) => fault.end(&mut faults),
-                None => command_as_read(&rt, alloc, read, input, rt.stdout(), &mut faults).status,
+                None => host
+                    .command_as_read(read, input, rt.stdout(), &mut faults)
+                    .status,
             }
         }
         Err(fault) => Fault::from(fault).end(&mut faults),

@@ -9,7 +9,7 @@ use std::os::unix::fs::FileExt;
 use std::test::Fail;
 use std::thread::Threads;
 use std::{env, fs, process};
-use strata::command_on_streams;
+use strata::Host;
 use test_kit::sample_images::empty;
 
 /// The status of the program over these streams, in memory of `alloc`; none if standard error has
@@ -33,7 +33,8 @@ where
     }
     let (mut input, mut output) = (Tap::new(input), Spout::new(output));
     let mut faults = Vec::new(global);
-    let status = command_on_streams(rt, alloc, &read, &mut input, &mut output, &mut faults);
+    let host = Host { rt, alloc };
+    let status = host.command_on_streams(&read, &mut input, &mut output, &mut faults);
     let told: &[u8] = if status == 0 { &[] } else { line };
     (faults.as_slice() == told).then_some(status)
 }

@@ -1,7 +1,7 @@
 use Rattle.std.proofs.Common.{◌∙◌, sym, subst, ap₂, arith, true≢false}
 use Rattle.devices.specs.States.{devices, source_state, sink_state}
 use Rattle.strata.specs.Ending.{IsRunOf}
-use Rattle.strata.proofs.program.command_of_line.Goals as goal
+use Rattle.strata.proofs.host.Host.command_of_line.Goals as goal
 
 pub returns-then-line-eq1 : goal.returns-then-line-eq1
 returns-then-line-eq1 g c = λ words is. record {

@@ -10,7 +10,7 @@ use Rattle.strata.specs.Ending.{first_of}
 use Rattle.strata_images.specs.Images.{bytes_of}
 use Rattle.strata_images.proofs.Opened.{seen_as}
 use Rattle.strata.proofs.Shared.{shared_with}
-use Rattle.strata.proofs.by_readers.serve_shared.Goals as goal
+use Rattle.strata.proofs.host.Host.serve_shared.Goals as goal
 
 pub returns-clause-served : goal.returns-clause-served
 returns-clause-served g c =

@@ -1,4 +1,4 @@
-use Rattle.strata.proofs.clients.serve_session.Goals as goal
+use Rattle.strata.proofs.clients.Service.serve_session.Goals as goal
 
 pub returns : goal.returns
 returns g c = (

@@ -1,7 +1,7 @@
 use Rattle.std.proofs.Common.{inl, inr, arith}
 use Rattle.strata.proofs.InTurn.{all_served, none_so_far, none_accepted, none_come, none_comes, one_comes, one_more}
-use Rattle.strata.proofs.clients.sessions_from.Goals.{then-status-eq0, else-status-eq0}
-use Rattle.strata.proofs.clients.sessions_from.Goals as goal
+use Rattle.strata.proofs.clients.Service.sessions_from.Goals.{then-status-eq0, else-status-eq0}
+use Rattle.strata.proofs.clients.Service.sessions_from.Goals as goal
 
 pub loop-number-init : goal.loop-number-init
 loop-number-init g c = (none_so_far, none_come _)

@@ -1,7 +1,7 @@
 use Rattle.std.proofs.Common.{◌∙◌, ap, map}
 use Rattle.serve_device.specs.Seats.{end_of_all, seat_of}
 use Rattle.strata.specs.Readers.{status_of_end}
-use Rattle.strata.proofs.by_readers.mount_by_readers.Goals as goal
+use Rattle.strata.proofs.host.Host.mount_by_readers.Goals as goal
 
 pub returns-in-Ok : goal.returns-in-Ok
 returns-in-Ok g c =

@@ -1,7 +1,7 @@
 use Rattle.std.proofs.Common.{◌∙◌, ap₂}
 use Rattle.strata.specs.Mounts.{status_on_device}
 use Rattle.strata.proofs.Mounts.{has_ended_there, has_stopped_there}
-use Rattle.strata.proofs.program.command_on_device.Goals as goal
+use Rattle.strata.proofs.host.Host.command_on_device.Goals as goal
 
 pub returns-in-Ok : goal.returns-in-Ok
 returns-in-Ok g c = λ words is. has_ended_there g.row.A.Denot _ _ _ _ (c.in-Ok.ensures.over words is)

@@ -7,7 +7,7 @@ use Rattle.strata_images.proofs.ReadFor.{held_for}
 use Rattle.strata.proofs.Ended.{ended, unread}
 use Rattle.strata.proofs.AtSocket.{over_there, stopped_there}
 use Rattle.strata_words.specs.declared.options.Verb.TheVariants as verbs
-use Rattle.strata.proofs.program.do_steps.Goals as goal
+use Rattle.strata.proofs.host.Host.do_steps.Goals as goal
 
 pub returns-in_err-images-in-Serve-clause-stopped : goal.returns-in_err-images-in-Serve-clause-stopped
 returns-in_err-images-in-Serve-clause-stopped g c = λ words read.

@@ -5,7 +5,7 @@ use Rattle.strata.specs.Ending.{TellsVersion}
 use Rattle.strata.specs.Ends.{given, streams, unused}
 use Rattle.strata.specs.Faults.{status_of}
 use Rattle.strata.proofs.Mounts.{ran_by, ran_without}
-use Rattle.strata.proofs.program.command_as_read.Goals as goal
+use Rattle.strata.proofs.host.Host.command_as_read.Goals as goal
 
 pub returns-in-Ok : goal.returns-in-Ok
 returns-in-Ok g c = λ words is. ran_by g.row.A.Denot words c.args.read c.in-Ok.line _ _ _ c.in-Ok.is c.command_of_line.ensures is

@@ -1,5 +1,5 @@
 use Rattle.strata.proofs.Statuses.{has_ended, has_stopped}
-use Rattle.strata.proofs.program.command_on_streams.Goals as goal
+use Rattle.strata.proofs.host.Host.command_on_streams.Goals as goal
 
 pub returns-in-Ok : goal.returns-in-Ok
 returns-in-Ok g c = λ words is. has_ended g.row.A.Denot _ _ _ _ (c.in-Ok.ensures.over words is)

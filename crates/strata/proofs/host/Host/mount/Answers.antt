@@ -3,7 +3,7 @@ use Rattle.serve_device.specs.MountEnds.{ends}
 use Rattle.strata.specs.Faults.{status_of}
 use Rattle.strata.specs.Mounts.{IsRunOnDevice}
 use Rattle.strata.proofs.Mounts.{new_ends}
-use Rattle.strata.proofs.program.mount.Goals as goal
+use Rattle.strata.proofs.host.Host.mount.Goals as goal
 
 pub returns-in-Ok : goal.returns-in-Ok
 returns-in-Ok g c = λ words is.
