@@ -17,8 +17,8 @@ use crate::faults::Fault;
 use devices::{Clients, Contents, Listening, Sink, Source, Spout, Tap};
 use node_reader::Table;
 use serve_core::{
-    Counted, Done, FreePass, MAX_TURNS, Plan, Served, Session, SharedAllocator, StreamFault, Terms,
-    run_from,
+    Counted, Done, FreePass, MAX_TURNS, Plan, Served, Serving, Session, SharedAllocator,
+    StreamFault, Terms,
 };
 use std::alloc::Allocator;
 use std::io::Write;
@@ -60,7 +60,7 @@ pub fn sessions<R: Threads + Sync, A: Allocator + Copy + Send + Sync, E: Write>(
 }
 
 /// The same for any clients, over a table and its files, in streams that begin in the session
-/// `first`, as [`serve_core::run_from`] serves them; no lookups are counted. A session has one
+/// `first`, as [`serve_core::Serving::run`] serves them; no lookups are counted. A session has one
 /// client, and no others are accepted.
 pub fn sessions_from<
     R: Threads + Sync,
@@ -159,5 +159,5 @@ fn serve_client<'c, R: Threads + Sync, A: SharedAllocator, D: Contents + Sync>(
         counted: Counted::NoNodes,
         gate: &FreePass,
     };
-    run_from(rt, alloc, served, source, sink, &terms)
+    Serving { served, terms }.run(rt, alloc, source, sink)
 }
