@@ -1,4 +1,5 @@
--- What was gathered from images is refused like them (refused_alike): it is sound if they are, and has their faults.
+-- What was gathered from images is refused like them (refused_alike): it is sound if they are, and has their faults. `AllGo` says that
+-- what is said of each list's faults is said of another's; then if the one is parted, the other is (parted), and refused (refused_goes).
 use Rattle.std.proofs.Common.{◌≡◌, ◌∙◌, ◌↔◌, sym, ap, subst, ℕ, zero, suc, ◌++◌, inl, inr, List, [], ◌∷◌, length, Option, Some, None, true≢false, refl, arith}
 use Rattle.std.specs.Prelude.{All, ⊤}
 use Rattle.romfs_format.specs.declared.rule.Profile.{Profile}
@@ -11,7 +12,7 @@ use Rattle.stack_prepare.specs.declared.refusal.Refusal.TheVariants.{Layer, Laye
 use Rattle.stack_prepare.specs.Layers.{AreRefused, IsFew, IsLowestBroken}
 use Rattle.serve_core.specs.Kept.{WasGatheredFor, WereGatheredFor}
 
-fault_alike : (profile : Profile) (b a : List ℕ) → WasGatheredFor profile b a → (fault : Option ImageFault)
+pub fault_alike : (profile : Profile) (b a : List ℕ) → WasGatheredFor profile b a → (fault : Option ImageFault)
     → (IsFaultOf profile b fault → IsFaultOf profile a fault) × (IsFaultOf profile a fault → IsFaultOf profile b fault)
 fault_alike profile b a (inl g) fault = same_fault_with_trailer b a g profile fault
 fault_alike profile b a (inr g) fault = same_fault profile (λ y. true≢false (sym y ∙ g.0)) b a g.1 fault
@@ -52,7 +53,7 @@ module _ (profile : Profile) where
   sound_goes (x ∷ xs) [] g s k d l = absurd g
 
   -- if the one list is parted, the other is
-  record IsParted (below above : List (List ℕ)) (x : List ℕ) (ys : List (List ℕ)) : Type 0 where
+  pub record IsParted (below above : List (List ℕ)) (x : List ℕ) (ys : List (List ℕ)) : Type 0 where
     pub low : List (List ℕ)
     pub high : List (List ℕ)
     pub one : List ℕ
@@ -61,7 +62,7 @@ module _ (profile : Profile) where
     pub lower : AllGo profile below low
     pub goes : (fault : Option ImageFault) → IsFaultOf profile x fault → IsFaultOf profile one fault
 
-  parted : (below above : List (List ℕ)) (x : List ℕ) (ys : List (List ℕ)) → AllGo profile (below ++ x ∷ above) ys
+  pub parted : (below above : List (List ℕ)) (x : List ℕ) (ys : List (List ℕ)) → AllGo profile (below ++ x ∷ above) ys
       → IsParted below above x ys
   parted [] above x (y ∷ ys) g = record { low = []; high = ys; one = y; are = refl; long = refl; lower = tt; goes = g.0 }
   parted [] above x [] g = absurd g
@@ -92,7 +93,7 @@ module _ (profile : Profile) where
         broken = r.goes (Some f) i.broken;
       }
 
-  refused_goes : (xs ys : List (List ℕ)) (r : Refusal) → length xs ≡ length ys → AllGo profile xs ys → AreRefused profile xs r
+  pub refused_goes : (xs ys : List (List ℕ)) (r : Refusal) → length xs ≡ length ys → AllGo profile xs ys → AreRefused profile xs r
       → AreRefused profile ys r
   refused_goes xs ys (Layers count) e g i = (i.0 ∙ e, i.1)
   refused_goes xs ys (Layer layer fault) e g i = (subst (λ n. IsFew n) e i.0, lowest_goes xs ys layer fault g i.1)

@@ -15,9 +15,7 @@ use Rattle.stack_model.specs.declared.limits.TheConstants.{MAX_LAYERS}
 use Rattle.stack_model.specs.declared.owner.TheConstants.Owner.{ROOT}
 use Rattle.stack_model.specs.Listing.{Entry, Stacked, IsAmong, IsListing}
 use Rattle.stack_model.specs.Numbers.{Place, place}
-use Rattle.stack_prepare.specs.declared.refusal.Refusal.{Refusal}
-use Rattle.stack_prepare.specs.declared.refusal.Refusal.TheVariants as refusals
-use Rattle.stack_prepare.specs.Layers.{AreRefused, IsFew, IsLowestBroken}
+use Rattle.stack_prepare.specs.Layers.{IsFew}
 use Rattle.stack_prepare.specs.Preparing.{AreStacked}
 use Rattle.node_list.specs.Lines as text
 use Rattle.reply_model.specs.Readings.{AreShown}
@@ -25,7 +23,7 @@ use Rattle.serve_core.specs.Kept.{over}
 use Rattle.serve_core.proofs.Layers.{LookSame, entry_pair, listing_goes, look_back}
 use Rattle.serve_core.proofs.Nodes.{IsNode}
 use Rattle.serve_core.proofs.Places.{IsSamePlace, place_same}
-use Rattle.serve_core.proofs.Refused.{AllGo, sound_goes}
+use Rattle.serve_core.proofs.Refused.{AllGo, parted, refused_goes, sound_goes}
 use Rattle.serve_core.proofs.Rows.{attr_same}
 use Rattle.strata_words.specs.declared.options.Line.{Line}
 use Rattle.strata_words.specs.declared.options.Verb.TheVariants as verbs
@@ -37,7 +35,7 @@ use Rattle.strata_images.specs.Listing.{IsListLost, IsNotListed, IsStackListed}
 use Rattle.strata.specs.declared.faults.Fault.{Fault}
 use Rattle.strata.specs.Ending.{IsDoneOver, IsStoppedOver}
 use Rattle.strata.specs.Laws.{AreBad}
-use Rattle.strata.proofs.Shown.{AreSameFor, all_come, all_go, all_same, counted, lists_all, look_all, parted, rows_all, sizes_all}
+use Rattle.strata.proofs.Shown.{AreSameFor, all_come, all_go, all_same, counted, lists_all, look_all, rows_all, sizes_all}
 
 module _ (profile : Profile) (images kept : List (List ℕ)) (same : AreSameFor profile images kept) where
   many : length kept ≡ length images
@@ -82,26 +80,12 @@ module _ (profile : Profile) (images kept : List (List ℕ)) (same : AreSameFor 
 
   -- ---- list
 
-  lowest_too : (n : ℕ) (f : ImageFault) → IsLowestBroken profile kept n f → IsLowestBroken profile images n f
-  lowest_too n f i =
-      let p = parted profile i.below i.above i.bytes images (subst (λ xs. AllGo profile xs images) i.images_are goes) in
-      record {
-        below = p.low;
-        above = p.high;
-        bytes = p.one;
-        images_are = p.are;
-        layer_is = i.layer_is ∙ sym p.long;
-        sound = sound_goes profile i.below p.low p.lower i.sound;
-        broken = p.goes (Some f) i.broken;
-      }
-
-  refused_too : (r : Refusal) → AreRefused profile kept r → AreRefused profile images r
-  refused_too (refusals.Layers count) i = (i.0 ∙ many, i.1)
-  refused_too (refusals.Layer layer fault) i = (subst (λ n. IsFew n) many i.0, lowest_too layer fault i.1)
-  refused_too refusals.Memory i = subst (λ n. IsFew n) many i
-
   unstacked_too : (fault : ImagesFault) → AreNotStacked profile kept fault → AreNotStacked profile images fault
-  unstacked_too fault f = record { refusal = f.refusal; told = f.told; refused = refused_too f.refusal f.refused }
+  unstacked_too fault f = record {
+    refusal = f.refusal;
+    told = f.told;
+    refused = refused_goes profile kept images f.refusal many goes f.refused;
+  }
 
   module _ (stack : Stacked) (stacked : AreStacked profile ROOT kept stack) where
     all_sound : All (IsSound profile) images

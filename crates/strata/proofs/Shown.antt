@@ -1,6 +1,6 @@
 -- What is held of images that sources show: each image itself, or what was gathered from it for the line (all_same). Both lists break the
--- same rules (all_go, all_come) and look the same (look_all), so what is said of a list's fault is said of the other's (parted).
-use Rattle.std.proofs.Common.{◌≡◌, ◌⊎◌, ◌∙◌, sym, ap, subst, ℕ, suc, inl, inr, List, [], ◌∷◌, ◌++◌, length, map, Option, Some, None, refl, arith}
+-- same rules (all_go, all_come) and look the same (look_all).
+use Rattle.std.proofs.Common.{◌≡◌, ◌⊎◌, ◌∙◌, sym, ap, subst, ℕ, suc, inl, inr, List, [], ◌∷◌, length, map, Option, Some, None, refl, arith}
 use Rattle.std.specs.Prelude.{All, ⊤}
 use Rattle.devices.specs.Sources.{Source, Shows}
 use Rattle.romfs_format.specs.declared.rule.Profile.{Profile}
@@ -17,7 +17,7 @@ use Rattle.reply_model.specs.Readings.{AreShown}
 use Rattle.serve_core.specs.Kept.{WasGatheredFor}
 use Rattle.serve_core.proofs.Layers.{LookSame}
 use Rattle.serve_core.proofs.Looks.{LooksSame, looks_alike}
-use Rattle.serve_core.proofs.Refused.{AllGo, go_back, go_forth}
+use Rattle.serve_core.proofs.Refused.{AllGo, fault_alike}
 use Rattle.strata_words.specs.declared.options.Line.{Line}
 use Rattle.strata_images.specs.Images.{AreReadFrom, IsReadFrom, asks_attributes, profile_of, reports_trailers, trailers_of}
 use Rattle.strata_images.proofs.ByDigest.{given_is_shown}
@@ -61,11 +61,11 @@ module _ (profile : Profile) where
 
   go_one : (b a : List ℕ) → IsSameFor profile b a → (fault : Option ImageFault) → IsFaultOf profile a fault → IsFaultOf profile b fault
   go_one b a (inl e) fault f = subst (λ x. IsFaultOf profile x fault) e f
-  go_one b a (inr g) fault f = (go_back profile (b ∷ []) (a ∷ []) (g, tt)).0 fault f
+  go_one b a (inr g) fault f = (fault_alike profile b a g fault).1 f
 
   come_one : (b a : List ℕ) → IsSameFor profile b a → (fault : Option ImageFault) → IsFaultOf profile b fault → IsFaultOf profile a fault
   come_one b a (inl e) fault f = subst (λ x. IsFaultOf profile x fault) (sym e) f
-  come_one b a (inr g) fault f = (go_forth profile (b ∷ []) (a ∷ []) (g, tt)).0 fault f
+  come_one b a (inr g) fault f = (fault_alike profile b a g fault).0 f
 
   pub all_go : (images kept : List (List ℕ)) → AreSameFor profile images kept → AllGo profile kept images
   all_go [] [] s = tt
@@ -84,33 +84,6 @@ module _ (profile : Profile) where
   counted (b ∷ images) (a ∷ kept) s = ap suc (counted images kept s.1)
   counted [] (a ∷ kept) s = absurd s
   counted (b ∷ images) [] s = absurd s
-
-  -- if the one list is parted, the other is
-  pub record IsParted (before after : List (List ℕ)) (x : List ℕ) (ys : List (List ℕ)) : Type 0 where
-    pub low : List (List ℕ)
-    pub high : List (List ℕ)
-    pub one : List ℕ
-    pub are : ys ≡ low ++ one ∷ high
-    pub long : length low ≡ length before
-    pub lower : AllGo profile before low
-    pub goes : (fault : Option ImageFault) → IsFaultOf profile x fault → IsFaultOf profile one fault
-
-  pub parted : (before after : List (List ℕ)) (x : List ℕ) (ys : List (List ℕ)) → AllGo profile (before ++ x ∷ after) ys
-      → IsParted before after x ys
-  parted [] after x (y ∷ ys) g = record { low = []; high = ys; one = y; are = refl; long = refl; lower = tt; goes = g.0 }
-  parted [] after x [] g = absurd g
-  parted (z ∷ before) after x (y ∷ ys) g =
-      let r = parted before after x ys g.1 in
-      record {
-        low = y ∷ r.low;
-        high = r.high;
-        one = r.one;
-        are = ap (λ xs. y ∷ xs) r.are;
-        long = ap suc r.long;
-        lower = (g.0, r.lower);
-        goes = r.goes;
-      }
-  parted (z ∷ before) after x [] g = absurd g
 
   -- ---- what they look like
 
