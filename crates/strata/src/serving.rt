@@ -15,9 +15,7 @@ use crate::files::{create_named, open_requests};
 use crate::settings::{counted_of, first_of, plan_of};
 use devices::{Sink, Source, Spout, Tap};
 use romfs_files::ImageData;
-use serve_core::{
-    Done, FreePass, MAX_TURNS, Served, Serving, SharedAllocator, StreamFault, Terms,
-};
+use serve_core::{Done, FreePass, MAX_TURNS, Served, Serving, SharedAllocator, StreamFault, Terms};
 use std::fs::Files;
 use std::os::unix::fs::FileExt;
 use std::thread::Threads;

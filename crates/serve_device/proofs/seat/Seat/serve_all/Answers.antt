@@ -24,7 +24,7 @@ returns-in_err-session g c =
     let within = bounds_of g.D.Contents.source serving in
     let old = seat (slice_index_or c.args.seats.now 0 c.index-seats-0.result) in
     let opened = subst (λ r. HasOpened serving.terms.first (shared by within) old (seat c.open.new.self) r) c.in_err-session.was
-        c.open.ensures in
+    c.open.ensures in
     let all = map seat (slice_set c.args.seats.now 0 c.open.new.self) in
     subst (λ r. AreServedBy serving.terms.first (shared by within) (map seat c.args.seats.now) all r)
     (sym c.from_residual.ensures)
@@ -51,6 +51,6 @@ returns g c =
     let within = bounds_of g.D.Contents.source serving in
     let old = seat (slice_index_or c.args.seats.now 0 c.index-seats-0.result) in
     let opened = subst (λ r. HasOpened serving.terms.first (shared by within) old (seat c.open.new.self) r) c.in_ok-session.was
-        c.open.ensures in
+    c.open.ensures in
     served_by_all serving.terms.first by within seat c.args.seats.now c.index-seats-0.result c.open.new.self c.in_ok-session.field-0
     (map seat c.serve_together.new.seats) c.requires.some opened c.serve_together.ensures
