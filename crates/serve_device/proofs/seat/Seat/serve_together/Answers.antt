@@ -14,7 +14,7 @@ for_each_mut-requires-clause-accepts g c = λ κs lives i p lt is.
     let met = c.type_bounds in
     let here = subst (λ s. ready (seat s)) (sym is) (at_place ready seat c.args.seats.now i p.now lt c.requires.ready) in (
       (search rules, search rules, search rules, search rules, search rules, search rules, here),
-      (met.send-A, met.send-I, met.send-O, search rules, search rules, search rules, search rules, search rules),
+      (met.send-I, met.send-O, met.send-A, search rules, search rules, search rules, search rules, search rules),
     )
 
 pub returns : goal.returns
