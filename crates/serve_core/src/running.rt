@@ -60,12 +60,12 @@ pub fn run<R: Threads + Sync, A: SharedAllocator, S: Source, K: Sink, G: Gate + 
 
 /// What streams are served over, a table and the files of its layers, and on which terms.
 #[derive(Drop)]
-pub struct Serving<'s, A: Allocator, D, G> {
+pub struct Serving<'s, 't, A: Allocator, D, G> {
     pub served: Served<'s, A, D>,
-    pub terms: Terms<'s, G>,
+    pub terms: Terms<'t, G>,
 }
 
-impl<'s, A: SharedAllocator, D: Contents + Sync, G: Gate + Sync> Serving<'s, A, D, G> {
+impl<'s, 't, A: SharedAllocator, D: Contents + Sync, G: Gate + Sync> Serving<'s, 't, A, D, G> {
     /// The same as [`run`] over this table and its files, with lookups counted as the terms say.
     /// Data in a file are read on demand: a READ gets what the file returned then, or EIO if a read
     /// failed or the file ended earlier.

@@ -37,7 +37,7 @@ where
     pub fn serve_all<R: Threads + Sync, D: Contents + Sync, G: Gate + Sync>(
         rt: &R,
         alloc: A,
-        serving: &Serving<'_, A, D, G>,
+        serving: &Serving<'_, '_, A, D, G>,
         seats: &mut [Self],
     ) -> Option<Done<A>>
         requires some { 0 < length seats.old }
@@ -62,7 +62,7 @@ where
     fn serve_together<R: Threads + Sync, D: Contents + Sync, G: Gate + Sync>(
         rt: &R,
         alloc: A,
-        serving: &Serving<'_, A, D, G>,
+        serving: &Serving<'_, '_, A, D, G>,
         seats: &mut [Self],
     )
         requires some { 0 < length seats.old }

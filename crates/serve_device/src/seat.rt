@@ -53,7 +53,7 @@ impl<I: Read + Drop, O: Write + Drop, A: SharedAllocator> Seat<I, O, A> {
         &mut self,
         rt: &R,
         alloc: A,
-        serving: &Serving<'_, A, D, G>,
+        serving: &Serving<'_, '_, A, D, G>,
     ) -> Option<Begun<A>>
         requires { AreReady serving.now.terms.turns (devices_of (seat_of I.remaining self.old)) }
         ensures { HasOpened serving.now.terms.first (shared_of D.source serving.now)
@@ -75,7 +75,7 @@ impl<I: Read + Drop, O: Write + Drop, A: SharedAllocator> Seat<I, O, A> {
         &mut self,
         rt: &R,
         alloc: A,
-        serving: &Serving<'_, A, D, G>,
+        serving: &Serving<'_, '_, A, D, G>,
     )
         requires { AreReady serving.now.terms.turns (devices_of (seat_of I.remaining self.old)) }
         ensures { HasServed serving.now.terms.first (sourced_by D.source serving.now.served)
