@@ -1,6 +1,9 @@
--- What was gathered from images is refused like them (refused_alike): it is sound if they are, and has their faults.
+-- What was gathered from images is refused like them (refused_alike): it is sound if they are, and has their faults. `AllGo` says that
+-- what is said of each list's faults is said of another's; then if the one is parted, the other is (parted), and refused (refused_goes).
 use Rattle.std.proofs.Common.{◌≡◌, ◌∙◌, ◌↔◌, sym, ap, subst, ℕ, zero, suc, ◌++◌, inl, inr, List, [], ◌∷◌, length, Option, Some, None, true≢false, refl, arith}
-use Rattle.std.specs.Prelude.{All, ⊤}
+use Rattle.std.specs.Prelude.{All}
+use Rattle.std.specs.List.{AllZip}
+use Rattle.std.proofs.lemmas.List.Elements.{length_all_zip}
 use Rattle.romfs_format.specs.declared.rule.Profile.{Profile}
 use Rattle.romfs_format.specs.declared.rule.ImageFault.{ImageFault}
 use Rattle.romfs_format.specs.Rules.{IsSound, IsFaultOf}
@@ -11,38 +14,41 @@ use Rattle.stack_prepare.specs.declared.refusal.Refusal.TheVariants.{Layer, Laye
 use Rattle.stack_prepare.specs.Layers.{AreRefused, IsFew, IsLowestBroken}
 use Rattle.serve_core.specs.Kept.{WasGatheredFor, WereGatheredFor}
 
-fault_alike : (profile : Profile) (b a : List ℕ) → WasGatheredFor profile b a → (fault : Option ImageFault)
+pub fault_alike : (profile : Profile) (b a : List ℕ) → WasGatheredFor profile b a → (fault : Option ImageFault)
     → (IsFaultOf profile b fault → IsFaultOf profile a fault) × (IsFaultOf profile a fault → IsFaultOf profile b fault)
 fault_alike profile b a (inl g) fault = same_fault_with_trailer b a g profile fault
 fault_alike profile b a (inr g) fault = same_fault profile (λ y. true≢false (sym y ∙ g.0)) b a g.1 fault
 
+-- lists are related as their pairs are, the one way and the other
+pub forth : (R S : List ℕ → List ℕ → Type 0) → ((x y : List ℕ) → R x y → S x y) → (xs ys : List (List ℕ)) → AllZip R xs ys → AllZip S xs ys
+forth R S one [] [] r = tt
+forth R S one (x ∷ xs) (y ∷ ys) r = (one x y r.0, forth R S one xs ys r.1)
+forth R S one [] (y ∷ ys) r = absurd r
+forth R S one (x ∷ xs) [] r = absurd r
+
+pub back : (R S : List ℕ → List ℕ → Type 0) → ((x y : List ℕ) → R x y → S y x) → (xs ys : List (List ℕ)) → AllZip R xs ys → AllZip S ys xs
+back R S one [] [] r = tt
+back R S one (x ∷ xs) (y ∷ ys) r = (one x y r.0, back R S one xs ys r.1)
+back R S one [] (y ∷ ys) r = absurd r
+back R S one (x ∷ xs) [] r = absurd r
+
+-- what is said of the one's fault is said of the other's
+abbrev pub Goes : Profile → List ℕ → List ℕ → Type 0
+Goes profile x y = (fault : Option ImageFault) → IsFaultOf profile x fault → IsFaultOf profile y fault
+
+-- so it is of each pair
+abbrev pub AllGo : Profile → List (List ℕ) → List (List ℕ) → Type 0
+AllGo profile xs ys = AllZip (Goes profile) xs ys
+
 module _ (profile : Profile) where
   pub counts : (bs xs : List (List ℕ)) → WereGatheredFor profile bs xs → length bs ≡ length xs
-  counts [] [] f = refl
-  counts (b ∷ bs) (a ∷ xs) f = (let e = counts bs xs f.1 in omega arith)
-  counts [] (a ∷ xs) f = absurd f
-  counts (b ∷ bs) [] f = absurd f
+  counts bs xs f = length_all_zip (WasGatheredFor profile) bs xs f
 
--- what is said of the one list's fault is said of the other's
-abbrev pub AllGo : Profile → List (List ℕ) → List (List ℕ) → Type 0
-AllGo profile [] [] = ⊤
-AllGo profile (x ∷ xs) (y ∷ ys) =
-    ((fault : Option ImageFault) → IsFaultOf profile x fault → IsFaultOf profile y fault) × AllGo profile xs ys
-AllGo profile [] (y ∷ ys) = ⊥
-AllGo profile (x ∷ xs) [] = ⊥
-
-module _ (profile : Profile) where
   pub go_forth : (bs xs : List (List ℕ)) → WereGatheredFor profile bs xs → AllGo profile bs xs
-  go_forth [] [] f = tt
-  go_forth (b ∷ bs) (a ∷ xs) f = ((λ fault. (fault_alike profile b a f.0 fault).0), go_forth bs xs f.1)
-  go_forth [] (a ∷ xs) f = absurd f
-  go_forth (b ∷ bs) [] f = absurd f
+  go_forth bs xs f = forth (WasGatheredFor profile) (Goes profile) (λ b a g fault. (fault_alike profile b a g fault).0) bs xs f
 
   pub go_back : (bs xs : List (List ℕ)) → WereGatheredFor profile bs xs → AllGo profile xs bs
-  go_back [] [] f = tt
-  go_back (b ∷ bs) (a ∷ xs) f = ((λ fault. (fault_alike profile b a f.0 fault).1), go_back bs xs f.1)
-  go_back [] (a ∷ xs) f = absurd f
-  go_back (b ∷ bs) [] f = absurd f
+  go_back bs xs f = back (WasGatheredFor profile) (Goes profile) (λ b a g fault. (fault_alike profile b a g fault).1) bs xs f
 
   pub sound_goes : (xs ys : List (List ℕ)) → AllGo profile xs ys → All (IsSound profile) xs → All (IsSound profile) ys
   sound_goes [] [] g s k d l = absurd (omega arith)
@@ -52,16 +58,16 @@ module _ (profile : Profile) where
   sound_goes (x ∷ xs) [] g s k d l = absurd g
 
   -- if the one list is parted, the other is
-  record IsParted (below above : List (List ℕ)) (x : List ℕ) (ys : List (List ℕ)) : Type 0 where
+  pub record IsParted (below above : List (List ℕ)) (x : List ℕ) (ys : List (List ℕ)) : Type 0 where
     pub low : List (List ℕ)
     pub high : List (List ℕ)
     pub one : List ℕ
     pub are : ys ≡ low ++ one ∷ high
     pub long : length low ≡ length below
     pub lower : AllGo profile below low
-    pub goes : (fault : Option ImageFault) → IsFaultOf profile x fault → IsFaultOf profile one fault
+    pub goes : Goes profile x one
 
-  parted : (below above : List (List ℕ)) (x : List ℕ) (ys : List (List ℕ)) → AllGo profile (below ++ x ∷ above) ys
+  pub parted : (below above : List (List ℕ)) (x : List ℕ) (ys : List (List ℕ)) → AllGo profile (below ++ x ∷ above) ys
       → IsParted below above x ys
   parted [] above x (y ∷ ys) g = record { low = []; high = ys; one = y; are = refl; long = refl; lower = tt; goes = g.0 }
   parted [] above x [] g = absurd g
@@ -92,7 +98,7 @@ module _ (profile : Profile) where
         broken = r.goes (Some f) i.broken;
       }
 
-  refused_goes : (xs ys : List (List ℕ)) (r : Refusal) → length xs ≡ length ys → AllGo profile xs ys → AreRefused profile xs r
+  pub refused_goes : (xs ys : List (List ℕ)) (r : Refusal) → length xs ≡ length ys → AllGo profile xs ys → AreRefused profile xs r
       → AreRefused profile ys r
   refused_goes xs ys (Layers count) e g i = (i.0 ∙ e, i.1)
   refused_goes xs ys (Layer layer fault) e g i = (subst (λ n. IsFew n) e i.0, lowest_goes xs ys layer fault g i.1)

@@ -1,6 +1,6 @@
 -- What an end of serving means: if it is `Ok`, so was the stream's; if it is a refusal of images, it is not that of a stream, and it is
 -- that of one refusal only. Images that were not held are refused (`refused`).
-use Rattle.std.proofs.Common.{◌≡◌, ◌∙◌, sym, ap, subst, ℕ, List, Result, Ok, Err, IfErr, IsErrAnd, refl}
+use Rattle.std.proofs.Common.{◌≡◌, ◌∙◌, sym, ap, subst, ℕ, List, Result, Ok, Err, IfErr, IsErrAnd}
 use Rattle.romfs_format.specs.declared.rule.ImageFault.{ImageFault}
 use Rattle.romfs_format.specs.declared.rule.Profile.{Profile}
 use Rattle.stack_prepare.specs.Layers.{AreRefused}

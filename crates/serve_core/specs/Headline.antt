@@ -1,8 +1,10 @@
 -- What serving a stream of requests over images promises: prepare, then run.
 use Rattle.std.specs.Prelude.{◌≡◌, ℕ, ◌⊎◌, List, length, map, Result, Err, OnOk}
 use Rattle.std.specs.Io.KnownBytes.{IsAtEnd}
+use Rattle.devices.specs.Sources.{Source}
 use Rattle.devices.specs.States.{Devices}
 use Rattle.fuse_wire.specs.Requests.{asked}
+use Rattle.fuse_answer.specs.Puts.{sourced_by}
 use Rattle.romfs_format.specs.declared.rule.Profile.{Profile}
 use Rattle.stack_model.specs.declared.owner.Owner.{Owner}
 use Rattle.stack_model.specs.declared.owner.TheConstants.Owner.{ROOT}
@@ -23,6 +25,7 @@ use Rattle.serve_loop.specs.Serving.{AreBalances, Trace, Does, IsRun, moves_of}
 use Rattle.serve_loop.specs.Laws.{HasServed}
 use Rattle.serve_core.specs.declared.terms.Counted.{Counted}
 use Rattle.serve_core.specs.declared.terms.Counted.TheVariants.{AllNodes, NoNodes}
+use Rattle.serve_core.specs.declared.running.Serving.{Serving}
 use Rattle.serve_core.specs.declared.stop.Stop.{Stop}
 use Rattle.serve_core.specs.declared.stop.Stop.TheVariants.{Turns}
 use Rattle.serve_core.specs.Stops.{IsRefusal, told}
@@ -51,6 +54,11 @@ nodes_counted NoNodes stack = 0
 -- the bounds over a stack, with lookups of these nodes counted
 abbrev pub bounds_over : ℕ → Counted → Sourced → Bounds
 bounds_over turns counted by = bounds turns (nodes_counted counted by.stack)
+
+-- those on the terms of a serving, over its table
+abbrev pub bounds_of : {A D G : Type 0} → (D → Source) → Serving A D G → Bounds
+bounds_of source serving =
+    bounds_over serving.terms.turns serving.terms.counted (sourced_by source serving.served)
 
 -- a stream that begins in this session was served over a stack of layers and the sources of their
 -- data, each message by the definitions of FUSE over the visible paths, and its end is reported

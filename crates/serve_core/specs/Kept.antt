@@ -1,5 +1,6 @@
 -- Images that stay in their files, what was gathered from each, and the stacks of both.
-use Rattle.std.specs.Prelude.{◌≡◌, ◌⊎◌, ℕ, List, [], ◌∷◌, ⊤, false, map}
+use Rattle.std.specs.Prelude.{◌≡◌, ◌⊎◌, ℕ, List, false, map}
+use Rattle.std.specs.List.{AllZip}
 use Rattle.devices.specs.Sources.{Source, IfShown}
 use Rattle.romfs_format.specs.Fields.{image}
 use Rattle.romfs_format.specs.declared.rule.Profile.{Profile}
@@ -22,11 +23,7 @@ WasGatheredFor profile b a =
 
 -- each of these was gathered so from the image at its position
 abbrev pub WereGatheredFor : Profile → List (List ℕ) → List (List ℕ) → Type 0
-WereGatheredFor profile [] [] = ⊤
-WereGatheredFor profile (b ∷ images) (a ∷ kept) =
-    WasGatheredFor profile b a × WereGatheredFor profile images kept
-WereGatheredFor profile [] (a ∷ kept) = ⊥
-WereGatheredFor profile (b ∷ images) [] = ⊥
+WereGatheredFor profile images kept = AllZip (WasGatheredFor profile) images kept
 
 -- the same stack over the accessible bytes of these images
 abbrev pub over : List (List ℕ) → Stacked → Stacked
@@ -47,11 +44,7 @@ WasGatheredFrom profile source a = IfShown source (λ b. WasGatheredFor profile 
 
 -- each of these was gathered so from the source at its position
 abbrev pub WereGatheredFrom : Profile → List Source → List (List ℕ) → Type 0
-WereGatheredFrom profile [] [] = ⊤
-WereGatheredFrom profile (source ∷ sources) (a ∷ kept) =
-    WasGatheredFrom profile source a × WereGatheredFrom profile sources kept
-WereGatheredFrom profile [] (a ∷ kept) = ⊥
-WereGatheredFrom profile (source ∷ sources) [] = ⊥
+WereGatheredFrom profile sources kept = AllZip (WasGatheredFrom profile) sources kept
 
 -- the images are good; over their stack each reply is the one that is defined, or EIO if the source
 -- of its data may lack them, and the same lookups are moved

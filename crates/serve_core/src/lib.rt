@@ -6,14 +6,14 @@
 //! written are the definition's replies, one after another; or the images are refused, and no
 //! device is called.
 //!
-//! Calls with `_as` take a profile of rules. [`run_from`] serves over a table and the files of its
-//! layers, as the program does: the data of a READ are then those that its layer's file may return,
-//! or the reply is EIO. [`run_until`], which all of these call, may end as soon as the session
-//! begins. `IsRun` in `serve_loop`'s `specs/Serving` defines what serving promises at each end, and
-//! `ServesBetween` in `specs/Headline` what it promises over images. [`laws`] derive from it what
-//! each end means, also for the program's calls: images that are prepared and a stream that is then
-//! run over them. A stream over a table stops for a [`StreamFault`]. [`Stop`] joins these with the
-//! reasons to refuse images, for the calls that take images, and for [`run`].
+//! Calls with `_as` take a profile of rules. [`Serving::run`] serves over a table and the files of
+//! its layers, as the program does: the data of a READ are then those that its layer's file may
+//! return, or the reply is EIO. [`Serving::run_until`], which all of these call, may end as soon as
+//! the session begins. `IsRun` in `serve_loop`'s `specs/Serving` defines what serving promises at
+//! each end, and `ServesBetween` in `specs/Headline` what it promises over images. [`laws`] derive
+//! from it what each end means, also for the program's calls: images that are prepared and a stream
+//! that is then run over them. A stream over a table stops for a [`StreamFault`]. [`Stop`] joins
+//! these with the reasons to refuse images, for the calls that take images, and for [`run`].
 //!
 //! Of an image that stays in its file only what the rules check is held in memory, and data are
 //! read from the file. [`kept_laws`] say that what was gathered from images is refused, stacked and
@@ -37,7 +37,7 @@ pub use preparing::{prepare, prepare_as};
 pub use reply_model::Session;
 pub use reply_pool::{Plan, Served};
 pub use romfs_format::Profile;
-pub use running::{run, run_from, run_until};
+pub use running::{Serving, run};
 pub use serve_loop::{Begun, Done, Opening, StreamFault, Until};
 pub use serving::{serve, serve_as};
 pub use stack_prepare::SharedAllocator;

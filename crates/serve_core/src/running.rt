@@ -7,7 +7,7 @@ ghost use Rattle.devices.specs.States.{devices};
 ghost use Rattle.fuse_answer.specs.Puts.{sourced_by};
 ghost use Rattle.reply_pool.specs.Spread.{IsSpreadable, SpreadsFrom};
 ghost use Rattle.serve_loop.specs.Serving.{AreReady};
-ghost use Rattle.serve_core.specs.Headline.{RunsBetween, RunsWithin, bounds_over};
+ghost use Rattle.serve_core.specs.Headline.{RunsBetween, RunsWithin, bounds_of};
 ghost use Rattle.serve_core.specs.Openings.{RunsUntil};
 
 use crate::stop::Stop;
@@ -18,7 +18,7 @@ use reply_model::Session;
 use reply_pool::{Pool, RoundPieces, Served, spread_out};
 use serve_loop::{Done, Opening, StreamFault, Until};
 use stack_prepare::{SharedAllocator, Table};
-use std::alloc::AllocError;
+use std::alloc::{AllocError, Allocator};
 use std::thread::Threads;
 
 /// Serves the source's stream of requests over a table of images held in full into the sink, in at
@@ -51,76 +51,77 @@ pub fn run<R: Threads + Sync, A: SharedAllocator, S: Source, K: Sink, G: Gate + 
         (devices (S.state source.old) (K.state sink.old))
         (devices (S.state source.new) (K.state sink.new)) }
 {
-    Ok(run_from(rt, alloc, Served::held(table), source, sink, terms)?)
+    let serving = Serving {
+        served: Served::held(table),
+        terms: *terms,
+    };
+    Ok(serving.run(rt, alloc, source, sink)?)
 }
 
-/// The same over a table and the files of its layers, with lookups counted as the terms say. Data
-/// in a file are read on demand: a READ gets what the file returned then, or EIO if a read failed
-/// or the file ended earlier. All else is as in [`run`].
-pub fn run_from<
-    R: Threads + Sync,
-    A: SharedAllocator,
-    D: Contents + Sync,
-    S: Source,
-    K: Sink,
-    G: Gate + Sync,
->(
-    rt: &R,
-    alloc: A,
-    served: Served<'_, A, D>,
-    source: &mut S,
-    sink: &mut K,
-    terms: &Terms<'_, G>,
-) -> Result<Done<A>, StreamFault>
-    requires { AreReady terms.now.turns (devices (S.state source.old) (K.state sink.old)) }
-    ensures { let by = sourced_by D.source served.entry in
-        RunsWithin terms.now.first by (bounds_over terms.now.turns terms.now.counted by) result
-        (devices (S.state source.old) (K.state sink.old))
-        (devices (S.state source.new) (K.state sink.new)) }
-{
-    match run_until(rt, alloc, served, source, sink, terms, Until::End) {
-        Ok(Opening::Ended(done)) => Ok(done),
-        // a stream that is served to its end is not left when its session begins
-        Ok(Opening::Begun(_)) => unreachable!(),
-        Err(fault) => Err(fault),
+/// What streams are served over, a table and the files of its layers, and on which terms.
+#[derive(Drop)]
+pub struct Serving<'s, 't, A: Allocator, D, G> {
+    pub served: Served<'s, A, D>,
+    pub terms: Terms<'t, G>,
+}
+
+impl<'s, 't, A: SharedAllocator, D: Contents + Sync, G: Gate + Sync> Serving<'s, 't, A, D, G> {
+    /// The same as [`run`] over this table and its files, with lookups counted as the terms say.
+    /// Data in a file are read on demand: a READ gets what the file returned then, or EIO if a read
+    /// failed or the file ended earlier.
+    pub fn run<R: Threads + Sync, S: Source, K: Sink>(
+        &self,
+        rt: &R,
+        alloc: A,
+        source: &mut S,
+        sink: &mut K,
+    ) -> Result<Done<A>, StreamFault>
+        requires { AreReady self.now.terms.turns
+            (devices (S.state source.old) (K.state sink.old)) }
+        ensures { RunsWithin self.now.terms.first (sourced_by D.source self.now.served)
+            (bounds_of D.source self.now) result
+            (devices (S.state source.old) (K.state sink.old))
+            (devices (S.state source.new) (K.state sink.new)) }
+    {
+        match self.run_until(rt, alloc, source, sink, Until::End) {
+            Ok(Opening::Ended(done)) => Ok(done),
+            // a stream that is served to its end is not left when its session begins
+            Ok(Opening::Begun(_)) => unreachable!(),
+            Err(fault) => Err(fault),
+        }
     }
-}
 
-/// The same to the stream's end, or only until its session has begun and no part of a message is
-/// left; [`serve_loop::run_until`] says what the result is then.
-pub fn run_until<
-    R: Threads + Sync,
-    A: SharedAllocator,
-    D: Contents + Sync,
-    S: Source,
-    K: Sink,
-    G: Gate + Sync,
->(
-    rt: &R,
-    alloc: A,
-    served: Served<'_, A, D>,
-    source: &mut S,
-    sink: &mut K,
-    terms: &Terms<'_, G>,
-    until: Until,
-) -> Result<Opening<A>, StreamFault>
-    requires { AreReady terms.now.turns (devices (S.state source.old) (K.state sink.old)) }
-    ensures { let by = sourced_by D.source served.entry in RunsUntil until
-        terms.now.first by (bounds_over terms.now.turns terms.now.counted by) result
-        (devices (S.state source.old) (K.state sink.old))
-        (devices (S.state source.new) (K.state sink.new)) }
-{
-    let (plan, gate) = (terms.plan, terms.gate);
-    let workers = move |stream: &[u8], session: Session, messages: usize| -> Result<
-        RoundPieces<A>,
-        AllocError,
-    >
-        requires { IsSpreadable stream.now messages × IsSync R.row × IsSync G.row × IsSync D.row
-            × IsSync A.row × IsSend A.row × Frees A.Allocator A.dealloc_token }
-        ensures { IfOk result (λ spread.
-            SpreadsFrom (sourced_by D.source served.entry) session stream.now spread) }
-    { spread_out(rt, alloc, served, stream, session, messages, plan, gate) };
-    let counted = nodes_counted(terms.counted, served.table);
-    let pool = Pool::new(served, terms.first, plan, gate, workers, counted);
-    serve_loop::run_until(alloc, &pool, source, sink, terms.turns, until)
+    /// The same to the stream's end, or only until its session has begun and no part of a message
+    /// is left; [`serve_loop::run_until`] says what the result is then.
+    pub fn run_until<R: Threads + Sync, S: Source, K: Sink>(
+        &self,
+        rt: &R,
+        alloc: A,
+        source: &mut S,
+        sink: &mut K,
+        until: Until,
+    ) -> Result<Opening<A>, StreamFault>
+        requires { AreReady self.now.terms.turns
+            (devices (S.state source.old) (K.state sink.old)) }
+        ensures { RunsUntil until self.now.terms.first (sourced_by D.source self.now.served)
+            (bounds_of D.source self.now) result
+            (devices (S.state source.old) (K.state sink.old))
+            (devices (S.state source.new) (K.state sink.new)) }
+    {
+        let (served, terms) = (self.served, self.terms);
+        let (plan, gate) = (terms.plan, terms.gate);
+        let workers = move |stream: &[u8], session: Session, messages: usize| -> Result<
+            RoundPieces<A>,
+            AllocError,
+        >
+            requires { IsSpreadable stream.now messages × IsSync R.row × IsSync G.row
+                × IsSync D.row × IsSync A.row × IsSend A.row
+                × Frees A.Allocator A.dealloc_token }
+            ensures { IfOk result (λ spread.
+                SpreadsFrom (sourced_by D.source served.entry) session stream.now spread) }
+        { spread_out(rt, alloc, served, stream, session, messages, plan, gate) };
+        let counted = nodes_counted(terms.counted, served.table);
+        let pool = Pool::new(served, terms.first, plan, gate, workers, counted);
+        serve_loop::run_until(alloc, &pool, source, sink, terms.turns, until)
+    }
 }

@@ -18,7 +18,7 @@ pub enum Counted {
 }
 
 /// The terms on which a stream is served.
-#[derive(Drop)]
+#[derive_where(Clone, Copy)]
 pub struct Terms<'a, G> {
     /// The session that the stream begins in: in [`Session::LastingFresh`] the client learns that
     /// the tree never changes.

@@ -2,7 +2,9 @@
 -- one stack and the sources of its data. Each counts lookups for as many nodes as its bounds say.
 use Rattle.std.specs.Prelude.{◌≡◌, ◌<◌, IsTrue, List, ◌∷◌, Option, None, Some, Result, Ok}
 use Rattle.std.specs.List.{AllZip}
+use Rattle.devices.specs.Sources.{Source}
 use Rattle.devices.specs.States.{Devices}
+use Rattle.fuse_answer.specs.Puts.{sourced_by}
 use Rattle.reply_model.specs.declared.session.Session.{Session}
 use Rattle.reply_model.specs.Readings.{Sourced}
 use Rattle.serve_loop.specs.declared.done.Done.{Done}
@@ -10,7 +12,8 @@ use Rattle.serve_loop.specs.declared.opening.Begun.{Begun}
 use Rattle.serve_loop.specs.declared.opening.Opening.TheVariants as openings
 use Rattle.serve_loop.specs.Serving.{Does}
 use Rattle.serve_loop.specs.declared.stream_fault.StreamFault.{StreamFault}
-use Rattle.serve_core.specs.Headline.{Bounds, RunsWithin}
+use Rattle.serve_core.specs.declared.running.Serving.{Serving}
+use Rattle.serve_core.specs.Headline.{Bounds, RunsWithin, bounds_of}
 use Rattle.serve_core.specs.Openings.{IsNotOpenedOver, IsOpenedOver}
 use Rattle.serve_device.specs.Seats.{SeatState, devices_of}
 
@@ -22,6 +25,10 @@ pub record Shared : Type 0 where
 -- the same, from its parts
 abbrev pub shared : Sourced → Bounds → Shared
 shared by within = record { by = by; within = within }
+
+-- what the readers of a serving share
+abbrev pub shared_of : {A D G : Type 0} → (D → Source) → Serving A D G → Shared
+shared_of source serving = shared (sourced_by source serving.served) (bounds_of source serving)
 
 -- either side of a seat is gone only after a failure of its own
 pub record IsGoneByFailure {A : Type 0} (seat : SeatState A) : Type 0 where

@@ -1,4 +1,4 @@
-//! What the results of readers mean, by what [`crate::serve_by_readers`] promises.
+//! What the results of readers mean, by what [`crate::Seat::serve_all`] promises.
 
 ghost use Rattle.std.specs.Prelude.{◌≡◌, ◌<◌, ◌+◌, ◌⊎◌, ℕ, List, ◌∷◌, false, None, Some, IsPermutation};
 ghost use Rattle.std.specs.List.{AllZip, flat_map};

@@ -12,13 +12,13 @@
 //! contracts say that a push writes once, that a pull reads, and that only ENODEV ends a mount. No
 //! contract can say that these two make the calls that they note; tests check it.
 //!
-//! Each reader has a [`Seat`]: a tap and a spout over the one descriptor. [`serve_by_readers`]
+//! Each reader has a [`Seat`]: a tap and a spout over the one descriptor. [`Seat::serve_all`]
 //! begins with the reader of the first seat, which serves until INIT is answered. The others begin
-//! in the session that it leaves: each in a thread of its own, by a `run_from` of its own over the
-//! same table and files. The kernel gives each message to one read; no contract says so. Readers
-//! share only what they borrow, and wait for one another only at the end. Each seat then holds the
-//! result of its reader, and [`end_of_all`] returns the [`End`] that is reported for all of them.
-//! [`laws`] say what that means.
+//! in the session that it leaves: each in a thread of its own, by a `Serving::run` of its own over
+//! the same table and files. The kernel gives each message to one read; no contract says so.
+//! Readers share only what they borrow, and wait for one another only at the end. Each seat then
+//! holds the result of its reader, and [`end_of_all`] returns the [`End`] that is reported for all
+//! of them. [`laws`] say what that means.
 #![tactic(auto)]
 
 mod answer;
@@ -39,7 +39,7 @@ pub use answer::Answer;
 pub use ends::End;
 pub use noted_reader::NotedReader;
 pub use noted_writer::NotedWriter;
-pub use readers::{end_of_all, serve_by_readers};
+pub use readers::end_of_all;
 pub use seat::{Seat, seats_over};
 pub use sink::ReplySpout;
 pub use source::MessageTap;

@@ -2,18 +2,15 @@
 
 ghost use Rattle.std.specs.Prelude.{◌≡◌, IfOk, length, map, replicate};
 ghost use Rattle.fuse_answer.specs.Puts.{sourced_by};
-ghost use Rattle.serve_core.specs.Headline.{bounds_over};
+ghost use Rattle.serve_core.specs.Headline.{bounds_of};
 ghost use Rattle.serve_loop.specs.Serving.{AreReady};
 ghost use Rattle.serve_device.specs.Seats.{AreNew, devices_of, new_seat, own_end, seat_of};
-ghost use Rattle.serve_device.specs.Readers.{HasOpened, HasServed, shared};
+ghost use Rattle.serve_device.specs.Readers.{HasOpened, HasServed, shared_of};
 
 use crate::ends::{End, end_of_stop};
 use crate::{MessageTap, ReplySpout};
 use devices::Contents;
-use serve_core::{
-    Begun, Done, Gate, Opening, Served, SharedAllocator, StreamFault, Terms, Until, run_from,
-    run_until,
-};
+use serve_core::{Begun, Done, Gate, Opening, Serving, SharedAllocator, StreamFault, Until};
 use std::alloc::{AllocError, Allocator};
 use std::io::{Read, Write};
 use std::thread::Threads;
@@ -51,22 +48,19 @@ impl<I: Read + Drop, O: Write + Drop, A: SharedAllocator> Seat<I, O, A> {
         }
     }
 
-    // Serves the requests from its devices over a table and its files, on these terms, until the
-    // session has begun, and returns the session.
+    // Serves the requests from its devices until the session has begun, and returns the session.
     pub(crate) fn open<R: Threads + Sync, D: Contents + Sync, G: Gate + Sync>(
         &mut self,
         rt: &R,
         alloc: A,
-        served: Served<'_, A, D>,
-        terms: &Terms<'_, G>,
+        serving: &Serving<'_, '_, A, D, G>,
     ) -> Option<Begun<A>>
-        requires { AreReady terms.now.turns (devices_of (seat_of I.remaining self.old)) }
-        ensures { let by = sourced_by D.source served.entry in HasOpened terms.now.first
-            (shared by (bounds_over terms.now.turns terms.now.counted by))
+        requires { AreReady serving.now.terms.turns (devices_of (seat_of I.remaining self.old)) }
+        ensures { HasOpened serving.now.terms.first (shared_of D.source serving.now)
             (seat_of I.remaining self.old) (seat_of I.remaining self.new) result }
     {
         let (input, output) = (&mut self.input, &mut self.output);
-        let opened = run_until(rt, alloc, served, input, output, terms, Until::Begun);
+        let opened = serving.run_until(rt, alloc, input, output, Until::Begun);
         let ended = match opened {
             Ok(Opening::Begun(begun)) => return Some(begun),
             Ok(Opening::Ended(done)) => Ok(done),
@@ -76,21 +70,20 @@ impl<I: Read + Drop, O: Write + Drop, A: SharedAllocator> Seat<I, O, A> {
         None
     }
 
-    // Serves the requests from its devices over a table and its files, on these terms.
+    // Serves the requests from its devices to their end.
     pub(crate) fn serve<R: Threads + Sync, D: Contents + Sync, G: Gate + Sync>(
         &mut self,
         rt: &R,
         alloc: A,
-        served: Served<'_, A, D>,
-        terms: &Terms<'_, G>,
+        serving: &Serving<'_, '_, A, D, G>,
     )
-        requires { AreReady terms.now.turns (devices_of (seat_of I.remaining self.old)) }
-        ensures { let by = sourced_by D.source served.entry in HasServed terms.now.first by
-            (bounds_over terms.now.turns terms.now.counted by) (seat_of I.remaining self.old)
+        requires { AreReady serving.now.terms.turns (devices_of (seat_of I.remaining self.old)) }
+        ensures { HasServed serving.now.terms.first (sourced_by D.source serving.now.served)
+            (bounds_of D.source serving.now) (seat_of I.remaining self.old)
             (seat_of I.remaining self.new) }
     {
         let (input, output) = (&mut self.input, &mut self.output);
-        self.result = Some(run_from(rt, alloc, served, input, output, terms));
+        self.result = Some(serving.run(rt, alloc, input, output));
     }
 }
 

@@ -9,7 +9,7 @@ use devices::{Contents, Spout, Tap};
 use node_reader::Table;
 use reply_pool::Plan;
 use romfs_format::Profile;
-use serve_core::{Counted, Done, Served, Session, Stop, Terms, prepare, run, run_from, serve_as};
+use serve_core::{Counted, Done, Served, Serving, Session, Stop, Terms, prepare, run, serve_as};
 use stack_core::{FreePass, Gate};
 use std::alloc::{AllocError, Allocator, Global};
 use std::thread::Threads;
@@ -243,7 +243,8 @@ pub fn ran_from<R: Threads + Sync, D: Contents + Sync>(
     };
     let mut tap = Tap::new(&mut pieces);
     let mut spout = Spout::new(&mut taker);
-    let done = match run_from(rt, global, served, &mut tap, &mut spout, &terms) {
+    let serving = Serving { served, terms };
+    let done = match serving.run(rt, global, &mut tap, &mut spout) {
         Ok(done) => Ok(done),
         Err(fault) => Err(Stop::from(fault)),
     };

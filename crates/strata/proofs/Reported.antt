@@ -1,11 +1,11 @@
--- What is reported of what is held of images is so of the images that their sources show: by `check` (checked, refused), and by `list`
--- (listed_by, unlisted); and they are bad if what is held is (blamed).
+-- What is reported of what is held of images is so of the images that their sources show: by `check` (checked), and by `list` (listed_by);
+-- and they are bad if what is held is (blamed).
 use Rattle.std.proofs.Common.{◌≡◌, ◌<◌, ◌≤◌, ◌∙◌, sym, ap, subst, ℕ, ◌++◌, inl, inr, List, [], ◌∷◌, length, map, Some, refl}
 use Rattle.std.specs.Prelude.{All}
 use Rattle.std.specs.List.{flat_map}
 use Rattle.std.specs.Io.KnownBytes.{Appends}
 use Rattle.devices.specs.Pushing.{GainsFront}
-use Rattle.devices.specs.States.{Devices, SinkState}
+use Rattle.devices.specs.States.{SinkState}
 use Rattle.romfs_format.specs.declared.rule.Profile.{Profile}
 use Rattle.romfs_format.specs.declared.rule.ImageFault.{ImageFault}
 use Rattle.romfs_format.specs.Fields.{image}
@@ -15,9 +15,7 @@ use Rattle.stack_model.specs.declared.limits.TheConstants.{MAX_LAYERS}
 use Rattle.stack_model.specs.declared.owner.TheConstants.Owner.{ROOT}
 use Rattle.stack_model.specs.Listing.{Entry, Stacked, IsAmong, IsListing}
 use Rattle.stack_model.specs.Numbers.{Place, place}
-use Rattle.stack_prepare.specs.declared.refusal.Refusal.{Refusal}
-use Rattle.stack_prepare.specs.declared.refusal.Refusal.TheVariants as refusals
-use Rattle.stack_prepare.specs.Layers.{AreRefused, IsFew, IsLowestBroken}
+use Rattle.stack_prepare.specs.Layers.{IsFew}
 use Rattle.stack_prepare.specs.Preparing.{AreStacked}
 use Rattle.node_list.specs.Lines as text
 use Rattle.reply_model.specs.Readings.{AreShown}
@@ -25,7 +23,7 @@ use Rattle.serve_core.specs.Kept.{over}
 use Rattle.serve_core.proofs.Layers.{LookSame, entry_pair, listing_goes, look_back}
 use Rattle.serve_core.proofs.Nodes.{IsNode}
 use Rattle.serve_core.proofs.Places.{IsSamePlace, place_same}
-use Rattle.serve_core.proofs.Refused.{AllGo, sound_goes}
+use Rattle.serve_core.proofs.Refused.{AllGo, parted, refused_goes, sound_goes}
 use Rattle.serve_core.proofs.Rows.{attr_same}
 use Rattle.strata_words.specs.declared.options.Line.{Line}
 use Rattle.strata_words.specs.declared.options.Verb.TheVariants as verbs
@@ -34,10 +32,8 @@ use Rattle.strata_images.specs.declared.faults.ImagesFault.TheVariants.{Layers}
 use Rattle.strata_images.specs.Checking.{AreAccepted, AreNotAccepted, AreNotGood, AreSizes, IsFirstFault, IsImageFault}
 use Rattle.strata_images.specs.Images.{AreNotStacked, AreReadFor, profile_of}
 use Rattle.strata_images.specs.Listing.{IsListLost, IsNotListed, IsStackListed}
-use Rattle.strata.specs.declared.faults.Fault.{Fault}
-use Rattle.strata.specs.Ending.{IsDoneOver, IsStoppedOver}
-use Rattle.strata.specs.Laws.{AreBad}
-use Rattle.strata.proofs.Shown.{AreSameFor, all_come, all_go, all_same, counted, lists_all, look_all, parted, rows_all, sizes_all}
+use Rattle.strata.specs.Laws.{AreBad, EndsAlike}
+use Rattle.strata.proofs.Shown.{AreSameFor, all_come, all_go, all_same, counted, lists_all, look_all, rows_all, sizes_all}
 
 module _ (profile : Profile) (images kept : List (List ℕ)) (same : AreSameFor profile images kept) where
   many : length kept ≡ length images
@@ -82,26 +78,12 @@ module _ (profile : Profile) (images kept : List (List ℕ)) (same : AreSameFor 
 
   -- ---- list
 
-  lowest_too : (n : ℕ) (f : ImageFault) → IsLowestBroken profile kept n f → IsLowestBroken profile images n f
-  lowest_too n f i =
-      let p = parted profile i.below i.above i.bytes images (subst (λ xs. AllGo profile xs images) i.images_are goes) in
-      record {
-        below = p.low;
-        above = p.high;
-        bytes = p.one;
-        images_are = p.are;
-        layer_is = i.layer_is ∙ sym p.long;
-        sound = sound_goes profile i.below p.low p.lower i.sound;
-        broken = p.goes (Some f) i.broken;
-      }
-
-  refused_too : (r : Refusal) → AreRefused profile kept r → AreRefused profile images r
-  refused_too (refusals.Layers count) i = (i.0 ∙ many, i.1)
-  refused_too (refusals.Layer layer fault) i = (subst (λ n. IsFew n) many i.0, lowest_too layer fault i.1)
-  refused_too refusals.Memory i = subst (λ n. IsFew n) many i
-
   unstacked_too : (fault : ImagesFault) → AreNotStacked profile kept fault → AreNotStacked profile images fault
-  unstacked_too fault f = record { refusal = f.refusal; told = f.told; refused = refused_too f.refusal f.refused }
+  unstacked_too fault f = record {
+    refusal = f.refusal;
+    told = f.told;
+    refused = refused_goes profile kept images f.refusal many goes f.refused;
+  }
 
   module _ (stack : Stacked) (stacked : AreStacked profile ROOT kept stack) where
     all_sound : All (IsSound profile) images
@@ -208,20 +190,17 @@ module _ (line : Line) (kept images : List (List ℕ)) (read : AreReadFor line k
   not_good fault old new (inr u) =
       inr (record { told = u.told; sizes = u.sizes; accepted = accepted u.sizes u.accepted; lost = u.lost })
 
-  module _ (A : Type 0) (old new : Devices) where
-    pub checked : IsDoneOver A verbs.Check line kept old new → IsDoneOver A verbs.Check line images old new
-    checked (e, g) = (e, record { sizes = g.sizes; accepted = accepted g.sizes g.accepted; put = g.put })
+  pub checked : (A : Type 0) → EndsAlike A verbs.Check line kept images
+  checked A = record {
+    done = λ old new d. (d.0, record { sizes = d.1.sizes; accepted = accepted d.1.sizes d.1.accepted; put = d.1.put });
+    stopped = λ old new fault s. (s.0, (s.1.0, s.1.1, not_good s.1.0 old.sink new.sink s.1.2));
+  }
 
-    pub refused : (fault : Fault) → IsStoppedOver A verbs.Check line kept fault old new
-        → IsStoppedOver A verbs.Check line images fault old new
-    refused fault (e, f) = (e, (f.0, f.1, not_good f.0 old.sink new.sink f.2))
-
-    pub listed_by : IsDoneOver A verbs.List line kept old new → IsDoneOver A verbs.List line images old new
-    listed_by (e, l) = (e, list_too (profile_of line) images kept same old.sink new.sink l)
-
-    pub unlisted : (fault : Fault) → IsStoppedOver A verbs.List line kept fault old new
-        → IsStoppedOver A verbs.List line images fault old new
-    unlisted fault (e, f) = (e, (f.0, f.1, unlisted_too (profile_of line) images kept same f.0 old.sink new.sink f.2))
+  pub listed_by : (A : Type 0) → EndsAlike A verbs.List line kept images
+  listed_by A = record {
+    done = λ old new d. (d.0, list_too (profile_of line) images kept same old.sink new.sink d.1);
+    stopped = λ old new fault s. (s.0, (s.1.0, s.1.1, unlisted_too (profile_of line) images kept same s.1.0 old.sink new.sink s.1.2));
+  }
 
   pub blamed : AreBad (profile_of line) kept → AreBad (profile_of line) images
   blamed = bad_too (profile_of line) images kept same

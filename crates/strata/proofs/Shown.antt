@@ -1,7 +1,9 @@
 -- What is held of images that sources show: each image itself, or what was gathered from it for the line (all_same). Both lists break the
--- same rules (all_go, all_come) and look the same (look_all), so what is said of a list's fault is said of the other's (parted).
-use Rattle.std.proofs.Common.{◌≡◌, ◌⊎◌, ◌∙◌, sym, ap, subst, ℕ, suc, inl, inr, List, [], ◌∷◌, ◌++◌, length, map, Option, Some, None, refl, arith}
-use Rattle.std.specs.Prelude.{All, ⊤}
+-- same rules (all_go, all_come) and look the same (look_all).
+use Rattle.std.proofs.Common.{◌≡◌, ◌⊎◌, ◌∙◌, sym, ap, subst, ℕ, suc, inl, inr, List, [], ◌∷◌, length, map, Option, Some, None, refl, arith}
+use Rattle.std.specs.Prelude.{All}
+use Rattle.std.specs.List.{AllZip}
+use Rattle.std.proofs.lemmas.List.Elements.{length_all_zip}
 use Rattle.devices.specs.Sources.{Source, Shows}
 use Rattle.romfs_format.specs.declared.rule.Profile.{Profile}
 use Rattle.romfs_format.specs.declared.rule.ImageFault.{ImageFault}
@@ -17,7 +19,7 @@ use Rattle.reply_model.specs.Readings.{AreShown}
 use Rattle.serve_core.specs.Kept.{WasGatheredFor}
 use Rattle.serve_core.proofs.Layers.{LookSame}
 use Rattle.serve_core.proofs.Looks.{LooksSame, looks_alike}
-use Rattle.serve_core.proofs.Refused.{AllGo, go_back, go_forth}
+use Rattle.serve_core.proofs.Refused.{AllGo, Goes, back, fault_alike, forth}
 use Rattle.strata_words.specs.declared.options.Line.{Line}
 use Rattle.strata_images.specs.Images.{AreReadFrom, IsReadFrom, asks_attributes, profile_of, reports_trailers, trailers_of}
 use Rattle.strata_images.proofs.ByDigest.{given_is_shown}
@@ -29,10 +31,7 @@ abbrev pub IsSameFor : Profile → List ℕ → List ℕ → Type 0
 IsSameFor profile b a = (a ≡ b) ⊎ WasGatheredFor profile b a
 
 abbrev pub AreSameFor : Profile → List (List ℕ) → List (List ℕ) → Type 0
-AreSameFor profile [] [] = ⊤
-AreSameFor profile (b ∷ images) (a ∷ kept) = IsSameFor profile b a × AreSameFor profile images kept
-AreSameFor profile [] (a ∷ kept) = ⊥
-AreSameFor profile (b ∷ images) [] = ⊥
+AreSameFor profile images kept = AllZip (IsSameFor profile) images kept
 
 module _ (line : Line) where
   same_of : (digest : Option Digest) (a b : List ℕ) (source : Source) → IsReadFrom (trailers_of line) digest a source → Shows source b
@@ -59,58 +58,22 @@ module _ (line : Line) where
 module _ (profile : Profile) where
   -- ---- the rules
 
-  go_one : (b a : List ℕ) → IsSameFor profile b a → (fault : Option ImageFault) → IsFaultOf profile a fault → IsFaultOf profile b fault
-  go_one b a (inl e) fault f = subst (λ x. IsFaultOf profile x fault) e f
-  go_one b a (inr g) fault f = (go_back profile (b ∷ []) (a ∷ []) (g, tt)).0 fault f
+  go_one : (b a : List ℕ) → IsSameFor profile b a → Goes profile a b
+  go_one b a (inl e) = λ fault f. subst (λ x. IsFaultOf profile x fault) e f
+  go_one b a (inr g) = λ fault f. (fault_alike profile b a g fault).1 f
 
-  come_one : (b a : List ℕ) → IsSameFor profile b a → (fault : Option ImageFault) → IsFaultOf profile b fault → IsFaultOf profile a fault
-  come_one b a (inl e) fault f = subst (λ x. IsFaultOf profile x fault) (sym e) f
-  come_one b a (inr g) fault f = (go_forth profile (b ∷ []) (a ∷ []) (g, tt)).0 fault f
+  come_one : (b a : List ℕ) → IsSameFor profile b a → Goes profile b a
+  come_one b a (inl e) = λ fault f. subst (λ x. IsFaultOf profile x fault) (sym e) f
+  come_one b a (inr g) = λ fault f. (fault_alike profile b a g fault).0 f
 
   pub all_go : (images kept : List (List ℕ)) → AreSameFor profile images kept → AllGo profile kept images
-  all_go [] [] s = tt
-  all_go (b ∷ images) (a ∷ kept) s = (go_one b a s.0, all_go images kept s.1)
-  all_go [] (a ∷ kept) s = absurd s
-  all_go (b ∷ images) [] s = absurd s
+  all_go = back (IsSameFor profile) (Goes profile) go_one
 
   pub all_come : (images kept : List (List ℕ)) → AreSameFor profile images kept → AllGo profile images kept
-  all_come [] [] s = tt
-  all_come (b ∷ images) (a ∷ kept) s = (come_one b a s.0, all_come images kept s.1)
-  all_come [] (a ∷ kept) s = absurd s
-  all_come (b ∷ images) [] s = absurd s
+  all_come = forth (IsSameFor profile) (Goes profile) come_one
 
   pub counted : (images kept : List (List ℕ)) → AreSameFor profile images kept → length kept ≡ length images
-  counted [] [] s = refl
-  counted (b ∷ images) (a ∷ kept) s = ap suc (counted images kept s.1)
-  counted [] (a ∷ kept) s = absurd s
-  counted (b ∷ images) [] s = absurd s
-
-  -- if the one list is parted, the other is
-  pub record IsParted (before after : List (List ℕ)) (x : List ℕ) (ys : List (List ℕ)) : Type 0 where
-    pub low : List (List ℕ)
-    pub high : List (List ℕ)
-    pub one : List ℕ
-    pub are : ys ≡ low ++ one ∷ high
-    pub long : length low ≡ length before
-    pub lower : AllGo profile before low
-    pub goes : (fault : Option ImageFault) → IsFaultOf profile x fault → IsFaultOf profile one fault
-
-  pub parted : (before after : List (List ℕ)) (x : List ℕ) (ys : List (List ℕ)) → AllGo profile (before ++ x ∷ after) ys
-      → IsParted before after x ys
-  parted [] after x (y ∷ ys) g = record { low = []; high = ys; one = y; are = refl; long = refl; lower = tt; goes = g.0 }
-  parted [] after x [] g = absurd g
-  parted (z ∷ before) after x (y ∷ ys) g =
-      let r = parted before after x ys g.1 in
-      record {
-        low = y ∷ r.low;
-        high = r.high;
-        one = r.one;
-        are = ap (λ xs. y ∷ xs) r.are;
-        long = ap suc r.long;
-        lower = (g.0, r.lower);
-        goes = r.goes;
-      }
-  parted (z ∷ before) after x [] g = absurd g
+  counted images kept s = sym (length_all_zip (IsSameFor profile) images kept s)
 
   -- ---- what they look like
 

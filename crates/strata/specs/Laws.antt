@@ -1,6 +1,7 @@
 -- What the exit statuses mean to a caller.
 use Rattle.std.specs.Prelude.{◌≡◌, ◌<◌, ◌+◌, ℕ, ◌⊎◌, ⊤, List, ◌∷◌, ◌++◌, length, vec_len, All, Option, Some, None, Ok, Err}
 use Rattle.std.specs.List.{AllByRecursion}
+use Rattle.devices.specs.States.{Devices}
 use Rattle.romfs_format.specs.declared.rule.Profile.{Profile}
 use Rattle.romfs_format.specs.Rules.{IsSound}
 use Rattle.reply_model.specs.declared.session.Session.{Session}
@@ -12,9 +13,11 @@ use Rattle.serve_loop.specs.declared.done.Done.{Done}
 use Rattle.serve_loop.specs.Serving.{Trace}
 use Rattle.stack_prepare.specs.Layers.{IsFew}
 use Rattle.strata_words.specs.declared.options.Line.{Line}
+use Rattle.strata_words.specs.declared.options.Verb.{Verb}
 use Rattle.strata_words.specs.CommandLine.{IsLineOf}
 use Rattle.strata.specs.declared.faults.Fault.{Fault}
 use Rattle.strata.specs.declared.faults.Fault.TheVariants.{Usage, RequestsFile, RepliesFile, BalancesFile, Bind, Accept, Images, InSession, Stopped}
+use Rattle.strata.specs.Ending.{IsDoneOver, IsStoppedOver}
 use Rattle.strata.specs.Faults.{IsOfImages, stop_status, status_of}
 use Rattle.strata.specs.Sessions.{ServedSession}
 use Rattle.strata_images.specs.declared.faults.ImagesFault.{ImagesFault}
@@ -51,6 +54,14 @@ pub record AreFar (words : List (List ℕ)) (fault : Fault) : Type 0 where
   pub named : image < vec_len line.images
   pub far : MayBeFarFor line image
   pub told : fault ≡ Images (faults.Far image)
+
+-- a command ends over these images as it does over what is held of them
+pub record EndsAlike (A : Type 0) (verb : Verb) (line : Line) (kept images : List (List ℕ))
+    : Type 0 where
+  pub done : (old new : Devices) → IsDoneOver A verb line kept old new
+      → IsDoneOver A verb line images old new
+  pub stopped : (old new : Devices) (fault : Fault) → IsStoppedOver A verb line kept fault old new
+      → IsStoppedOver A verb line images fault old new
 
 -- a session was served to its end
 abbrev pub IsWhole : {A : Type 0} {first : Session} {by : Sourced} → ServedSession A first by

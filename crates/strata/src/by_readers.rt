@@ -10,8 +10,8 @@ use crate::ends::{Ends, Ran};
 use crate::faults::Fault;
 use crate::host::Host;
 use crate::settings::{first_of, plan_of};
-use serve_core::{Counted, FreePass, MAX_TURNS, Served, SharedAllocator, Terms};
-use serve_device::{End, Seat, end_of_all, seats_over, serve_by_readers};
+use serve_core::{Counted, FreePass, MAX_TURNS, Served, Serving, SharedAllocator, Terms};
+use serve_device::{End, Seat, end_of_all, seats_over};
 use std::fs::Files;
 use std::io::{Read, Write};
 use std::os::unix::fs::FileExt;
@@ -80,7 +80,8 @@ where
             gate: &FreePass,
         };
         let mut seats = seats_over(self.alloc, line.readers, reader, writer)?;
-        let _before = serve_by_readers(self.rt, self.alloc, served, seats.as_mut_slice(), &terms);
+        let serving = Serving { served, terms };
+        let _before = Seat::serve_all(self.rt, self.alloc, &serving, seats.as_mut_slice());
         Ok(seats)
     }
 }

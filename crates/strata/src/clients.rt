@@ -18,8 +18,8 @@ use crate::host::Host;
 use devices::{Clients, Contents, Listening, Sink, Source, Spout, Tap};
 use node_reader::Table;
 use serve_core::{
-    Counted, Done, FreePass, MAX_TURNS, Plan, Served, Session, SharedAllocator, StreamFault, Terms,
-    run_from,
+    Counted, Done, FreePass, MAX_TURNS, Plan, Served, Serving, Session, SharedAllocator,
+    StreamFault, Terms,
 };
 use std::alloc::Allocator;
 use std::io::Write;
@@ -69,7 +69,7 @@ pub struct Service<'s, R, A: Allocator, D> {
 
 impl<R: Threads + Sync, A: SharedAllocator, D: Contents + Sync> Service<'_, R, A, D> {
     /// Serves `count` sessions as [`sessions`] does, to any clients, each stream as
-    /// [`serve_core::run_from`] serves it; no lookups are counted. A session has one client, and no
+    /// [`serve_core::Serving::run`] serves it; no lookups are counted. A session has one client, and no
     /// others are accepted.
     pub fn sessions_from<C: Clients, E: Write>(
         &self,
@@ -130,14 +130,11 @@ impl<R: Threads + Sync, A: SharedAllocator, D: Contents + Sync> Service<'_, R, A
             counted: Counted::NoNodes,
             gate: &FreePass,
         };
-        run_from(
-            self.host.rt,
-            self.host.alloc,
-            self.served,
-            source,
-            sink,
-            &terms,
-        )
+        let serving = Serving {
+            served: self.served,
+            terms,
+        };
+        serving.run(self.host.rt, self.host.alloc, source, sink)
     }
 }
 

@@ -8,7 +8,7 @@ ghost use Rattle.strata_words.specs.declared.options.Line.{Line};
 ghost use Rattle.strata_words.specs.declared.options.Verb.TheVariants as verbs;
 ghost use Rattle.devices.specs.States.{Devices};
 ghost use Rattle.serve_loop.specs.declared.stream_fault.StreamFault.TheVariants.{Read, Write};
-ghost use Rattle.strata.specs.Ending.{EndsWith, IsServedWhole, IsFileFault, IsDoneOver, IsStoppedOver, first_of};
+ghost use Rattle.strata.specs.Ending.{EndsWith, IsServedWhole, IsFileFault, IsDoneOver, first_of};
 ghost use Rattle.reply_model.specs.declared.session.Session.{Session};
 ghost use Rattle.reply_model.specs.declared.session.Session.TheVariants.{Fresh, LastingFresh};
 ghost use Rattle.reply_model.specs.Readings.{Sourced, sourced, AreShown, IsReplyOver};
@@ -28,7 +28,7 @@ ghost use Rattle.serve_device.specs.Ends.{end_of_stop};
 ghost use Rattle.strata.specs.Sessions.{first_fault, status_at, Accepting, AreServed, EndWith, IsSession, ServedSession};
 ghost use Rattle.strata.specs.declared.faults.Fault.{Fault};
 ghost use Rattle.strata.specs.declared.faults.Fault.TheVariants.{Stopped};
-ghost use Rattle.strata.specs.Laws.{AreBad, AreFar, AreToBlame, AreUnsealed, HasMetItsEnd, HasStatusOf, IsOfFirstStopped, IsWhole, TellsOfSessions};
+ghost use Rattle.strata.specs.Laws.{AreBad, AreFar, AreToBlame, AreUnsealed, EndsAlike, HasMetItsEnd, HasStatusOf, IsOfFirstStopped, IsWhole, TellsOfSessions};
 ghost use Rattle.strata.specs.Mounts.{is_taken_away, status_on_device, IsRunOnDevice, IsTakenAway, StopsWhere};
 
 use std::alloc::Allocator;
@@ -141,21 +141,9 @@ pub fn lines_keep_what_they_show()
 /// returned, instead of a block, another with its digest.
 pub fn reports_are_of_shown_images<A: Allocator>()
     ensures checked { (line : Line) (kept images : List (List ℕ)) (read : AreReadFor line kept) →
-        AreShown read.sources images → (old new : Devices) →
-        IsDoneOver A verbs.Check line kept old new →
-        IsDoneOver A verbs.Check line images old new }
-    ensures refused { (line : Line) (kept images : List (List ℕ)) (read : AreReadFor line kept) →
-        AreShown read.sources images → (old new : Devices) (fault : Fault) →
-        IsStoppedOver A verbs.Check line kept fault old new →
-        IsStoppedOver A verbs.Check line images fault old new }
+        AreShown read.sources images → EndsAlike A verbs.Check line kept images }
     ensures listed { (line : Line) (kept images : List (List ℕ)) (read : AreReadFor line kept) →
-        AreShown read.sources images → (old new : Devices) →
-        IsDoneOver A verbs.List line kept old new →
-        IsDoneOver A verbs.List line images old new }
-    ensures unlisted { (line : Line) (kept images : List (List ℕ)) (read : AreReadFor line kept) →
-        AreShown read.sources images → (old new : Devices) (fault : Fault) →
-        IsStoppedOver A verbs.List line kept fault old new →
-        IsStoppedOver A verbs.List line images fault old new }
+        AreShown read.sources images → EndsAlike A verbs.List line kept images }
     ensures blamed { (line : Line) (kept images : List (List ℕ)) (read : AreReadFor line kept) →
         AreShown read.sources images → AreBad (profile_of line) kept →
         AreBad (profile_of line) images }

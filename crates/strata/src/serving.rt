@@ -15,9 +15,7 @@ use crate::files::{create_named, open_requests};
 use crate::settings::{counted_of, first_of, plan_of};
 use devices::{Sink, Source, Spout, Tap};
 use romfs_files::ImageData;
-use serve_core::{
-    Done, FreePass, MAX_TURNS, Served, SharedAllocator, StreamFault, Terms, run_from,
-};
+use serve_core::{Done, FreePass, MAX_TURNS, Served, Serving, SharedAllocator, StreamFault, Terms};
 use std::fs::Files;
 use std::os::unix::fs::FileExt;
 use std::thread::Threads;
@@ -145,13 +143,14 @@ where
         counted: counted_of(line),
         gate: &FreePass,
     };
+    let serving = Serving { served, terms };
     match (requests, replies) {
         (Some(from), Some(to)) => {
             let (mut from, mut to) = (Tap::new(from), Spout::new(to));
-            run_from(rt, alloc, served, &mut from, &mut to, &terms)
+            serving.run(rt, alloc, &mut from, &mut to)
         }
-        (Some(from), None) => run_from(rt, alloc, served, &mut Tap::new(from), output, &terms),
-        (None, Some(to)) => run_from(rt, alloc, served, input, &mut Spout::new(to), &terms),
-        (None, None) => run_from(rt, alloc, served, input, output, &terms),
+        (Some(from), None) => serving.run(rt, alloc, &mut Tap::new(from), output),
+        (None, Some(to)) => serving.run(rt, alloc, input, &mut Spout::new(to)),
+        (None, None) => serving.run(rt, alloc, input, output),
     }
 }

@@ -4,9 +4,10 @@ ghost use Rattle.std.specs.Prelude.{◌≡◌, true, IfSome};
 
 use node_reader::Table;
 use serve_core::{
-    Counted, Done, FreePass, Gate, MAX_TURNS, Plan, Served, Session, StreamFault, Terms, Work,
+    Counted, Done, FreePass, Gate, MAX_TURNS, Plan, Served, Serving, Session, StreamFault, Terms,
+    Work,
 };
-use serve_device::{End, Seat, end_of_all, seats_over, serve_by_readers};
+use serve_device::{End, Seat, end_of_all, seats_over};
 use serve_test_kit::runs::table_of;
 use std::alloc::Allocator;
 use std::io::{self, Error, Read, Write};
@@ -186,12 +187,15 @@ fn served<R: Threads + Sync, A: Allocator + Copy + Send + Sync, G: Gate + Sync>(
         counted: Counted::AllNodes,
         gate,
     };
-    let over = Served::held(table);
+    let serving = Serving {
+        served: Served::held(table),
+        terms,
+    };
     let Ok(mut seats) = seats_over(alloc, readers.max(1), device, device) else {
         return None;
     };
     let all = seats.as_mut_slice();
-    let before = serve_by_readers(rt, alloc, over, all, &terms);
+    let before = Seat::serve_all(rt, alloc, &serving, all);
     Some((end_of_all(all), counted(&before, all)))
 }
 

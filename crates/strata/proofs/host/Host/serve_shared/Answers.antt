@@ -18,10 +18,10 @@ returns-clause-served g c =
     let by = sourced c.in_ok-table.table (map source_of c.as_slice.result.now) in
     let first = first_of c.args.line.now in
     let over = shared by (bounds MAX_TURNS 0) in
-    let before = c.serve_by_readers-before.result in
+    let before = c.serve_all-before.result in
     let seats = c.in_ok-seats.seats in
-    let new = c.serve_by_readers-before.new.seats in
-    let served = rw c.first_of.ensures at c.serve_by_readers-before.ensures in
+    let new = c.serve_all-before.new.seats in
+    let served = rw c.first_of.ensures at c.serve_all-before.ensures in
     let all = shared_with g.I.Read.remaining first over seats c.as_mut_slice.result.now new before c.as_mut_slice.ensures.value served in
     record {
       images = bytes_of c.in_ok-images.images.held;

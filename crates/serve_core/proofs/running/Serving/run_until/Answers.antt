@@ -2,19 +2,20 @@ use Rattle.std.proofs.Common.{rules, ◌≡◌, ◌∙◌, IfOk}
 use Rattle.devices.specs.States.{devices}
 use Rattle.fuse_answer.specs.Puts.{sourced_by}
 use Rattle.reply_pool.specs.Spread.{SpreadsFrom}
-use Rattle.serve_core.specs.Headline.{bounds_over}
+use Rattle.serve_core.specs.Headline.{bounds_of}
 use Rattle.serve_core.proofs.Headline.{spread_answers}
 use Rattle.serve_core.proofs.Openings.{looped_by, same_served}
-use Rattle.serve_core.proofs.running.run_until.Goals as goal
+use Rattle.serve_core.proofs.running.Serving.run_until.Goals as goal
 
 pub returns : goal.returns
 returns g c =
-    let by = sourced_by g.D.Contents.source c.args.served in
-    let within = bounds_over c.args.terms.now.turns c.args.terms.now.counted by in
+    let serving = c.args.self.now in
+    let by = sourced_by g.D.Contents.source serving.served in
+    let within = bounds_of g.D.Contents.source serving in
     let old = devices (g.S.Source.state c.args.source.now) (g.K.Sink.state c.args.sink.now) in
     let new = devices (g.S.Source.state c.run_until.new.source) (g.K.Sink.state c.run_until.new.sink) in
     record {
-      run = looped_by {A = g.row.A.Denot} c.args.until within old new c.run_until.result c.new-pool.result.first c.args.terms.now.first _ by
+      run = looped_by {A = g.row.A.Denot} c.args.until within old new c.run_until.result c.new-pool.result.first serving.terms.first _ by
           c.new-pool.result.counted c.new-pool.ensures.first
           (same_served g.D.Contents.source _ _ _ _ c.new-pool.ensures.table c.new-pool.ensures.files)
           (c.new-pool.ensures.counted ∙ c.nodes_counted-counted.ensures) c.run_until.ensures.run;
@@ -25,7 +26,7 @@ returns g c =
 pub run_until-requires-clause-ready : goal.run_until-requires-clause-ready
 run_until-requires-clause-ready g c =
     let over = sourced_by g.D.Contents.source c.new-pool.result.served in
-    let by = sourced_by g.D.Contents.source c.args.served in
+    let by = sourced_by g.D.Contents.source c.args.self.now.served in
     let same : over ≡ by = same_served g.D.Contents.source _ _ _ _ c.new-pool.ensures.table c.new-pool.ensures.files in
     record {
       takes = λ stream session messages spreadable. search rules;
