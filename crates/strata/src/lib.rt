@@ -1,9 +1,9 @@
 //! The program `strata`: FUSE requests answered over a stack of romfs images.
 //!
 //! [`command_as_read`] is the entire program over its command line, as [`line`] reads it, and its
-//! three standard streams: it runs the line by [`command_on_device`] if it says that the streams are
-//! an open `/dev/fuse`, otherwise by [`command_on_streams`], and returns the [`Ends`] that it ran
-//! between. [`command`] reads the line, too.
+//! three standard streams: it runs the line by [`command_on_device`] if it says that the streams
+//! are an open `/dev/fuse`, otherwise by [`command_on_streams`], and returns the [`Ends`] that it
+//! ran between. [`command`] reads the line, too.
 //! [`sessions`] serves the clients of a Unix socket that is already bound, one after another, and
 //! [`sessions_from`] those of any source of clients. [`faults`] has a line and an exit status for
 //! everything that can go wrong.
