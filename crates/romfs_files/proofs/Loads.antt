@@ -40,8 +40,8 @@ module _ {F A : Type 0} (known : F → Option (List ℕ)) (loading : Loading) wh
       (subst (λ l. AreLoadedBy known loading l (low ++ high)) joined (then_more ds es low high whole lower upper))
 
   -- one more image, of the next digest
-  pub one_more : (digests : List (Option Digest)) (i : ℕ) (d : Option Digest) (images new : List (LoadedImage F A)) (image : LoadedImage F A)
-      → length images ≡ i → i < length digests → AreLoadedBy known loading digests images
+  pub one_more : (digests : List (Option Digest)) (i : ℕ) (d : Option Digest) (images new : List (LoadedImage F A))
+      (image : LoadedImage F A) → length images ≡ i → i < length digests → AreLoadedBy known loading digests images
       → IsLoadedBy known loading (get_or digests i d) image → new ≡ images ++ image ∷ [] → AreLoadedBy known loading digests new
   one_more digests i d images new image many within are is new_is =
       subst (λ all. AreLoadedBy known loading digests all) (sym new_is) (go digests i images many within are is)

@@ -19,9 +19,11 @@ one_unread loading count read digests fault each (inr (below, is)) =
     inr (read, omega (arith, each, below), subst (λ image. IsUnreadAt loading image (get_or digests read None) fault) same is)
 
 -- a fault that ended the run is reported
-pub unread_told : {X : Type 0} (loading : Loading) (count read : ℕ) (digests : List (Option Digest)) (end : Result (Unit {0}) FilesFault) (fault : FilesFault)
-    (told : Result X FilesFault) → length digests ≡ count → IsReadUpTo loading 0 digests read end → end ≡ Err fault → IsErrAnd told (λ t. t ≡ fault)
+pub unread_told : {X : Type 0} (loading : Loading) (count read : ℕ) (digests : List (Option Digest))
+    (end : Result (Unit {0}) FilesFault) (fault : FilesFault) (told : Result X FilesFault) → length digests ≡ count
+    → IsReadUpTo loading 0 digests read end → end ≡ Err fault → IsErrAnd told (λ t. t ≡ fault)
     → IfErr told (IsOneUnread loading count digests)
 unread_told loading count read digests end fault (Ok x) each run is same = tt
 unread_told loading count read digests end fault (Err t) each run is same =
-    subst (IsOneUnread loading count digests) (sym same) (one_unread loading count read digests fault each (subst (IsReadUpTo loading 0 digests read) is run))
+    let next : IsNextUnread loading 0 digests read fault = subst (IsReadUpTo loading 0 digests read) is run in
+    subst (IsOneUnread loading count digests) (sym same) (one_unread loading count read digests fault each next)

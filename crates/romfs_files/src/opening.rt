@@ -84,8 +84,8 @@ pub(crate) fn load_file<F: Read + Seek + OpenFile + FileExt + Drop, A: Allocator
 }
 
 /// Loads the image of a file of this kind, which is at its beginning. `Unread` if a read fails, if
-/// a device reports no end, or if the file ends before the size that it reported; `Far` if a trailer
-/// that is read ends at 2^32 or beyond.
+/// a device reports no end, or if the file ends before the size that it reported; `Far` if a
+/// trailer that is read ends at 2^32 or beyond.
 pub fn load_as<F: Read + Seek + OpenFile + FileExt + Drop, A: Allocator + Copy>(
     alloc: A,
     file: F,

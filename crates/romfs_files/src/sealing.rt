@@ -26,8 +26,8 @@ type Unshared<F, A> = SealedImage<Files<InFile<F>, InFile<F>, Recent<A>>, A>;
 /// Loads the image of a file with this fs-verity digest, with the file of its tree. Each block is
 /// hashed when it is read, unless its bytes were hashed shortly before. All bytes are read, or what
 /// the rules look at, with the trailer if requested; then both files stay open, or are closed. The
-/// bytes that are read are those of the named file, unless a read gives, instead of a block, another
-/// with the same digest.
+/// bytes that are read are those of the named file, unless a read gives, instead of a block,
+/// another with the same digest.
 ///
 /// `Unread` if the files are not the named ones, if the image has 2^33 bytes or more, or if a read
 /// fails or gives a block with another digest; `Far` only if a trailer that is read ends at 2^32 or

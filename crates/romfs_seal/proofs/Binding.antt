@@ -27,7 +27,8 @@ digest_is a h sized xs n i below =
     digest_at-block a (above a h xs n) (i / fan a) (i % fan a) (rest_below a i)
     ∙ ap (λ k. digest_at a (above a h xs n) k) (split_is a i) ∙ digest_at-above a h sized xs n i below
 
-pub bound_or_forged : (a : Algorithm) (h : Hash) (sized : (m : List ℕ) → IsDigest a (h m)) (levels : ℕ) (xs : List ℕ) (n : ℕ) (top : List ℕ) (i : ℕ) (b : List ℕ)
+pub bound_or_forged : (a : Algorithm) (h : Hash) (sized : (m : List ℕ) → IsDigest a (h m))
+    → (levels : ℕ) (xs : List ℕ) (n : ℕ) (top : List ℕ) (i : ℕ) (b : List ℕ)
     → AreBlocks xs n → i < n → n ≤ fan a ^ levels → top ≡ root a h levels xs n → (v : Vouches a h levels top i b)
     → (b ≡ block xs i) ⊎ IsForged a h levels xs n top i b v
 unfolding Vouches root IsForged
@@ -56,10 +57,12 @@ pub vouches : (a : Algorithm) (h : Hash) (sized : (m : List ℕ) → IsDigest a 
 unfolding Vouches root
 vouches a h sized zero xs n i blocks below enough = ap h (block-only xs n i blocks below (one_block a n enough))
 vouches a h sized (suc levels) xs n i blocks below enough =
+    let up = above a h xs n in
+    let whole : AreBlocks up (blocks_above a n) = blocks-above a h sized xs n in
     let upper : i / fan a < blocks_above a n = above_within a n i below in (
-      block (above a h xs n) (i / fan a),
-      block-is (above a h xs n) (blocks_above a n) (i / fan a) (blocks-above a h sized xs n) upper,
-      vouches a h sized levels (above a h xs n) (blocks_above a n) (i / fan a) (blocks-above a h sized xs n) upper (one_level_less a n levels enough),
+      block up (i / fan a),
+      block-is up (blocks_above a n) (i / fan a) whole upper,
+      vouches a h sized levels up (blocks_above a n) (i / fan a) whole upper (one_level_less a n levels enough),
       sym (digest_is a h sized xs n i below),
     )
 
@@ -95,7 +98,8 @@ blocks_same xs ys n p q same =
     let within : k / 4096 < n = omega arith in
     let split : 4096 * (k / 4096) + k % 4096 ≡ k = omega arith in
     ap (λ i. get_or ys i 0) (sym split) ∙ sym (index-block ys (k / 4096) (k % 4096) (omega arith))
-    ∙ ap (λ l. get_or l (k % 4096) 0) (same (k / 4096) within) ∙ index-block xs (k / 4096) (k % 4096) (omega arith) ∙ ap (λ i. get_or xs i 0) split)
+    ∙ ap (λ l. get_or l (k % 4096) 0) (same (k / 4096) within)
+    ∙ index-block xs (k / 4096) (k % 4096) (omega arith) ∙ ap (λ i. get_or xs i 0) split)
 
 pub one_root : (a : Algorithm) (h : Hash) (sized : (m : List ℕ) → IsDigest a (h m)) (levels : ℕ) (xs ys : List ℕ) (n : ℕ)
     → AreBlocks xs n → AreBlocks ys n → root a h levels ys n ≡ root a h levels xs n → (ys ≡ xs) ⊎ HaveTwins a h levels xs ys n
@@ -107,8 +111,10 @@ one_root a h sized (suc levels) xs ys n p q same =
     (blocks-above a h sized ys n) same) [
       | inr twins ↦ inr (inr twins)
       | inl is ↦
-          elim (same_or_twins h xs ys n
-          (λ i below. sym (digest_at-above a h sized ys n i below) ∙ ap (λ l. digest_at a l i) is ∙ digest_at-above a h sized xs n i below)) [
+          let digests : (i : ℕ) → i < n → h (block ys i) ≡ h (block xs i) =
+          λ i below. sym (digest_at-above a h sized ys n i below)
+          ∙ ap (λ l. digest_at a l i) is ∙ digest_at-above a h sized xs n i below in
+          elim (same_or_twins h xs ys n digests) [
             | inr twins ↦ inr (inl twins)
             | inl blocks ↦ inl (blocks_same xs ys n p q blocks)
           ]

@@ -9,8 +9,8 @@ use Rattle.devices.specs.Tree.{AreBytes, digest_size, digest_at}
 use Rattle.devices.specs.File.{filled}
 use Rattle.devices.specs.Seal.{IsGiven}
 
-pub given_filled : (source : Given) (place count k : ℕ) (room block zeros : List ℕ) → length room ≡ count → length block ≡ 4096 → count ≤ 4096
-    → AreBytes room → Allows source place room → k ≡ 4096 - count
+pub given_filled : (source : Given) (place count k : ℕ) (room block zeros : List ℕ)
+    → length room ≡ count → length block ≡ 4096 → count ≤ 4096 → AreBytes room → Allows source place room → k ≡ 4096 - count
     → zeros ≡ replicate (length (take k (drop count (room ++ drop count block)))) 0
     → IsGiven source place count (put_mid count k (room ++ drop count block) zeros)
 unfolding filled

@@ -19,11 +19,12 @@ use Rattle.romfs_seal.proofs.Binding.{list_cases, one_root}
 pub blocks-file : (xs : List ℕ) → AreBytes xs → AreBlocks (in_blocks xs) (blocks_of (length xs))
 unfolding in_blocks
 blocks-file xs bytes =
-    let pad = length-replicate {A = ℕ} (4096 * blocks_of (length xs) - length xs) 0 in
-    let both = length-append xs (replicate (4096 * blocks_of (length xs) - length xs) 0) in
+    let rest = 4096 * blocks_of (length xs) - length xs in
+    let pad = length-replicate {A = ℕ} rest 0 in
+    let both = length-append xs (replicate rest 0) in
     record {
       whole = omega arith;
-      bytes = bytes-append xs (replicate (4096 * blocks_of (length xs) - length xs) 0) bytes (bytes-zeros (4096 * blocks_of (length xs) - length xs));
+      bytes = bytes-append xs (replicate rest 0) bytes (bytes-zeros rest);
     }
 
 file_front : (xs : List ℕ) → take (length xs) (in_blocks xs) ≡ xs
@@ -97,6 +98,7 @@ one_file a h sized xs ys d x y =
     elim (list_cases (descriptor a (length ys) (root_of a h y.levels ys)) (descriptor a (length xs) (root_of a h x.levels xs))) [
       | inr other ↦ inr (record { twins = inl (record { same = y.digest ∙ sym x.digest; other = other }) })
       | inl same ↦
+          let n = blocks_of (length xs) in
           let small_x = x.small in
           let small_y = y.small in
           let long : length ys ≡ length xs =
@@ -104,14 +106,14 @@ one_file a h sized xs ys d x y =
           let top : root_of a h y.levels ys ≡ root_of a h x.levels xs =
           one_top a (length ys) (length xs) (root_of a h y.levels ys) (root_of a h x.levels xs)
           (length-root_hash a h sized (y.levels) (in_blocks ys) (blocks_of (length ys)))
-          (length-root_hash a h sized (x.levels) (in_blocks xs) (blocks_of (length xs))) same in
-          let count : blocks_of (length ys) ≡ blocks_of (length xs) = ap (λ k. blocks_of k) long in
+          (length-root_hash a h sized (x.levels) (in_blocks xs) n) same in
+          let count : blocks_of (length ys) ≡ n = ap (λ k. blocks_of k) long in
           let levels : y.levels ≡ x.levels =
-          one_count a (blocks_of (length xs)) (y.levels) (x.levels) (subst (λ k. HasLevels a k y.levels) count (y.has_levels)) (x.has_levels) in
-          let moved : root_hash a h x.levels (in_blocks ys) (blocks_of (length xs)) ≡ root_hash a h x.levels (in_blocks xs) (blocks_of (length xs)) =
-          ap (λ k. root_hash a h k (in_blocks ys) (blocks_of (length xs))) (sym levels)
+          one_count a n (y.levels) (x.levels) (subst (λ k. HasLevels a k y.levels) count (y.has_levels)) (x.has_levels) in
+          let moved : root_hash a h x.levels (in_blocks ys) n ≡ root_hash a h x.levels (in_blocks xs) n =
+          ap (λ k. root_hash a h k (in_blocks ys) n) (sym levels)
           ∙ ap (λ k. root_hash a h y.levels (in_blocks ys) k) (sym count) ∙ top in
-          elim (one_tree a h sized (x.levels) (in_blocks xs) (in_blocks ys) (blocks_of (length xs)) (blocks-file xs (x.bytes))
+          elim (one_tree a h sized (x.levels) (in_blocks xs) (in_blocks ys) n (blocks-file xs (x.bytes))
           (subst (λ k. AreBlocks (in_blocks ys) k) count (blocks-file ys (y.bytes))) moved) [
             | inr twins ↦ inr (record { twins = inr twins })
             | inl is ↦ inl (same_file xs ys long is)

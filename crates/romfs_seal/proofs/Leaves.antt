@@ -63,33 +63,36 @@ pub leaf_none : (s : Seal) (levels lowest : ℕ) (kept room : List ℕ) (j : ℕ
     → length room ≡ 4096 → digest_size s.algorithm ≤ 64 → IsLeaf s (first_under s.algorithm j) (kept ++ drop (length kept) room)
 leaf_none s levels lowest kept room j none o room_long small =
     let a = s.algorithm in
+    let n = blocks_of s.size in
     let both = length-append kept (drop (length kept) room) in
     let rest = length-drop (length kept) room in
-    let size = no_level a s.hash levels (blocks_of s.size) kept none (o.long) in
-    let one = few_blocks a (blocks_of s.size) levels none (o.has_levels) in
+    let size = no_level a s.hash levels n kept none (o.long) in
+    let one = few_blocks a n levels none (o.has_levels) in
     record {
       long = omega arith;
       levels = levels;
       has_levels = o.has_levels;
-      top = kept_root a s.hash levels kept (blocks_of s.size);
+      top = kept_root a s.hash levels kept n;
       described = o.described;
       vouches = λ i b from less below e.
-          none_vouches a s.hash levels i (kept_root a s.hash levels kept (blocks_of s.size)) b none
+          none_vouches a s.hash levels i (kept_root a s.hash levels kept n) b none
           (e ∙ only_digest a kept (drop (length kept) room) (i - first_under a j) size (no_place a j i (omega (arith, below, one)))
-          ∙ sym (root_kept a s.hash levels (blocks_of s.size) kept none));
+          ∙ sym (root_kept a s.hash levels n kept none));
       sized = λ xs u. (o.right xs u).0;
       right = λ xs u i from less below.
           let told = o.right xs u in
-          let count : blocks_of s.size ≡ blocks_of (length xs) = ap (λ k. blocks_of k) (told.0) in
+          let m = blocks_of (length xs) in
+          let count : n ≡ m = ap (λ k. blocks_of k) (told.0) in
           only_digest a kept (drop (length kept) room) (i - first_under a j) size (no_place a j i (omega (arith, below, one)))
           ∙ told.1
-          ∙ none_kept a s.hash levels (in_blocks xs) (blocks_of (length xs)) i none (blocks-file xs (u.of.bytes)) (subst (λ k. k ≤ 1) count one)
+          ∙ none_kept a s.hash levels (in_blocks xs) m i none (blocks-file xs (u.of.bytes)) (subst (λ k. k ≤ 1) count one)
           (subst (λ k. i < k) count below);
     }
 
 -- ---- the digest of a hash block is kept
 
-upper_vouched : (a : Algorithm) (h : Hash) (sized : (m : List ℕ) → IsDigest a (h m)) (levels n : ℕ) (kept : List ℕ) (index : ℕ) (leaf : List ℕ)
+upper_vouched : (a : Algorithm) (h : Hash) (sized : (m : List ℕ) → IsDigest a (h m))
+    → (levels n : ℕ) (kept : List ℕ) (index : ℕ) (leaf : List ℕ)
     → HasLevels a n (suc levels) → length kept ≡ kept_len a (suc levels) n → AreBytes kept
     → index < blocks_above a n → h leaf ≡ digest_at a kept index → Vouches a h levels (kept_root a h (suc levels) kept n) index leaf
 unfolding Vouches digest_at
@@ -102,21 +105,25 @@ upper_vouched a h sized (suc levels) n kept index leaf has long bytes within e =
     let more = blocks_above a (blocks_above a n) in
     let blocks : AreBlocks kept more = record { whole = long; bytes = bytes } in
     let upper : index / fan a < more = above_within a (blocks_above a n) index within in
-    let enough : more ≤ fan a ^ levels = one_level_less a (blocks_above a n) levels (one_level_less a n (suc levels) (has.enough)) in (
+    let enough : more ≤ fan a ^ levels = one_level_less a (blocks_above a n) levels (one_level_less a n (suc levels) (has.enough)) in
+    let place : digest_at a (block kept (index / fan a)) (index % fan a) ≡ digest_at a kept index =
+    digest_at-block a kept (index / fan a) (index % fan a) (rest_below a index) ∙ ap (λ k. digest_at a kept k) (split_is a index) in (
       block kept (index / fan a),
       block-is kept more (index / fan a) blocks upper,
       vouches a h sized levels kept more (index / fan a) blocks upper enough,
-      e ∙ sym (digest_at-block a kept (index / fan a) (index % fan a) (rest_below a index) ∙ ap (λ k. digest_at a kept k) (split_is a index)),
+      e ∙ sym place,
     )
 
-below_upper : (a : Algorithm) (h : Hash) (levels : ℕ) (top : List ℕ) (i : ℕ) (b leaf : List ℕ) → IsBlock leaf → Vouches a h levels top (i / fan a) leaf
-    → h b ≡ digest_at a leaf (i % fan a) → Vouches a h (suc levels) top i b
+below_upper : (a : Algorithm) (h : Hash) (levels : ℕ) (top : List ℕ) (i : ℕ) (b leaf : List ℕ)
+    → IsBlock leaf → Vouches a h levels top (i / fan a) leaf → h b ≡ digest_at a leaf (i % fan a)
+    → Vouches a h (suc levels) top i b
 unfolding Vouches
 below_upper a h levels top i b leaf is v e = (leaf, is, v, e)
 
 -- what is kept of bytes has the digests of their lowest hash blocks
-pub kept_digest : (a : Algorithm) (h : Hash) (sized : (m : List ℕ) → IsDigest a (h m)) (levels n : ℕ) (xs : List ℕ) (index : ℕ) → n ≤ fan a ^ suc levels
-    → index < blocks_above a n → digest_at a (kept_of a h (suc levels) xs n) index ≡ h (block (above a h xs n) index)
+pub kept_digest : (a : Algorithm) (h : Hash) (sized : (m : List ℕ) → IsDigest a (h m)) (levels n : ℕ) (xs : List ℕ) (index : ℕ)
+    → n ≤ fan a ^ suc levels → index < blocks_above a n
+    → digest_at a (kept_of a h (suc levels) xs n) index ≡ h (block (above a h xs n) index)
 unfolding digest_at
 kept_digest a h sized zero n xs index enough within =
     let one : blocks_above a n ≤ 1 = one_block a (blocks_above a n) (one_level_less a n 0 enough) in
@@ -130,7 +137,8 @@ kept_digest a h sized (suc levels) n xs index enough within = digest_at-above a 
 
 -- a hash block of unmatched bytes is theirs
 pub hash_block_is : (s : Seal) (sized : (m : List ℕ) → IsDigest s.algorithm (s.hash m)) (below : ℕ) (xs leaf : List ℕ) (index : ℕ)
-    → HasLevels s.algorithm (blocks_of (length xs)) (suc below) → (u : IsUnmatched s xs) → index < blocks_above s.algorithm (blocks_of (length xs))
+    → HasLevels s.algorithm (blocks_of (length xs)) (suc below) → (u : IsUnmatched s xs)
+    → index < blocks_above s.algorithm (blocks_of (length xs))
     → IsGiven s.tree (lowest_place s.algorithm (suc below) (blocks_of (length xs)) + 4096 * index) 4096 leaf
     → s.hash leaf ≡ s.hash (block (above s.algorithm s.hash (in_blocks xs) (blocks_of (length xs))) index)
     → leaf ≡ block (above s.algorithm s.hash (in_blocks xs) (blocks_of (length xs))) index
@@ -156,7 +164,8 @@ leaf_kept s zero lowest kept leaf j some o within is g e = absurd (some refl)
 leaf_kept s (suc levels) lowest kept leaf j some o within is g e =
     let a = s.algorithm in
     let n = blocks_of s.size in
-    let upper = upper_vouched a s.hash (o.sized) levels n kept (j / fan a) leaf (o.has_levels) (o.long) (o.bytes) within e in
+    let index = j / fan a in
+    let upper = upper_vouched a s.hash (o.sized) levels n kept index leaf (o.has_levels) (o.long) (o.bytes) within e in
     let top = kept_root a s.hash (suc levels) kept n in
     record {
       long = is.whole;
@@ -171,20 +180,21 @@ leaf_kept s (suc levels) lowest kept leaf j some o within is g e =
       sized = λ xs u. (o.right xs u).0;
       right = λ xs u i from less below.
           let told = o.right xs u in
-          let count : n ≡ blocks_of (length xs) = ap (λ k. blocks_of k) (told.0) in
           let m = blocks_of (length xs) in
+          let up = above a s.hash (in_blocks xs) m in
+          let count : n ≡ m = ap (λ k. blocks_of k) (told.0) in
           let has : HasLevels a m (suc levels) = subst (λ k. HasLevels a k (suc levels)) count (o.has_levels) in
-          let inside : j / fan a < blocks_above a m = subst (λ k. j / fan a < blocks_above a k) count within in
-          let same : s.hash leaf ≡ s.hash (block (above a s.hash (in_blocks xs) m) (j / fan a)) =
-          e ∙ ap (λ l. digest_at a l (j / fan a)) (told.1) ∙ kept_digest a s.hash (o.sized) levels m (in_blocks xs) (j / fan a) (has.enough) inside in
-          let place : lowest + 4096 * (j / fan a) ≡ lowest_place a (suc levels) m + 4096 * (j / fan a) =
-          ap (λ k. k + 4096 * (j / fan a)) (o.place ∙ ap (λ k. lowest_place a (suc levels) k) count) in
-          let found : leaf ≡ block (above a s.hash (in_blocks xs) m) (j / fan a) =
-          hash_block_is s (o.sized) levels xs leaf (j / fan a) has u inside (subst (λ k. IsGiven s.tree k 4096 leaf) place g) same in
+          let inside : index < blocks_above a m = subst (λ k. index < blocks_above a k) count within in
+          let same : s.hash leaf ≡ s.hash (block up index) =
+          e ∙ ap (λ l. digest_at a l index) (told.1) ∙ kept_digest a s.hash (o.sized) levels m (in_blocks xs) index (has.enough) inside in
+          let place : lowest + 4096 * index ≡ lowest_place a (suc levels) m + 4096 * index =
+          ap (λ k. k + 4096 * index) (o.place ∙ ap (λ k. lowest_place a (suc levels) k) count) in
+          let found : leaf ≡ block up index =
+          hash_block_is s (o.sized) levels xs leaf index has u inside (subst (λ k. IsGiven s.tree k 4096 leaf) place g) same in
           ap (λ k. digest_at a leaf k) (in_place a j i from less)
           ∙ ap (λ l. digest_at a l (i % fan a)) found
-          ∙ digest_at-block a (above a s.hash (in_blocks xs) m) (j / fan a) (i % fan a) (rest_below a i)
-          ∙ ap (λ k. digest_at a (above a s.hash (in_blocks xs) m) (fan a * k + i % fan a)) (sym (in_run a j i from less))
-          ∙ ap (λ k. digest_at a (above a s.hash (in_blocks xs) m) k) (split_is a i)
+          ∙ digest_at-block a up index (i % fan a) (rest_below a i)
+          ∙ ap (λ k. digest_at a up (fan a * k + i % fan a)) (sym (in_run a j i from less))
+          ∙ ap (λ k. digest_at a up k) (split_is a i)
           ∙ digest_at-above a s.hash (o.sized) (in_blocks xs) m i (subst (λ k. i < k) count below);
     }

@@ -56,10 +56,10 @@ digest_at-digests a h sized xs tail (suc n) i below =
     let shape : (digests h xs n ++ h (block xs n)) ++ tail ≡ digests h xs n ++ (h (block xs n) ++ tail) =
     append_assoc (digests h xs n) (h (block xs n)) tail in
     elim (cases_lt i n) [
-      | inl less ↦ ap (λ l. take (digest_size a) (drop (digest_size a * i) l)) shape ∙ digest_at-digests a h sized xs (h (block xs n) ++ tail) n i less
+      | inl less ↦ ap (λ l. digest_at a l i) shape ∙ digest_at-digests a h sized xs (h (block xs n) ++ tail) n i less
       | inr not_less ↦
           let same : i ≡ n = omega arith in
-          ap (λ l. take (digest_size a) (drop (digest_size a * i) l)) shape
+          ap (λ l. digest_at a l i) shape
           ∙ ap (λ k. take (digest_size a) (drop (digest_size a * k) (digests h xs n ++ (h (block xs n) ++ tail)))) same
           ∙ ap (λ l. take (digest_size a) l) (drop_at (digests h xs n) (h (block xs n) ++ tail) (digest_size a * n) size)
           ∙ take_at (h (block xs n)) tail (digest_size a) last
@@ -71,7 +71,8 @@ digest_at-digests a h sized xs tail (suc n) i below =
 pub digest_at-above : (a : Algorithm) (h : Hash) (sized : (m : List ℕ) → IsDigest a (h m)) (xs : List ℕ) (n i : ℕ) → i < n
     → digest_at a (above a h xs n) i ≡ h (block xs i)
 unfolding above
-digest_at-above a h sized xs n i below = digest_at-digests a h sized xs (replicate (4096 * blocks_above a n - digest_size a * n) 0) n i below
+digest_at-above a h sized xs n i below =
+    digest_at-digests a h sized xs (replicate (4096 * blocks_above a n - digest_size a * n) 0) n i below
 
 pub blocks-above : (a : Algorithm) (h : Hash) (sized : (m : List ℕ) → IsDigest a (h m)) (xs : List ℕ) (n : ℕ)
     → AreBlocks (above a h xs n) (blocks_above a n)

@@ -84,7 +84,8 @@ read_more : (s : Seal) (place done count k : ℕ) (room part : List ℕ) → don
     → length part ≡ count → AreRead s place (take done room) → AreRead s (place + done) part
     → AreRead s place (take (done + count) (put_mid done k room part))
 read_more s place done count k room part d l v w =
-    let e : take (done + count) (put_mid done k room part) ≡ take done room ++ take count part = put_front room part done count k d (omega arith) in
+    let e : take (done + count) (put_mid done k room part) ≡ take done room ++ take count part =
+    put_front room part done count k d (omega arith) in
     let size : length (take done room) ≡ done = length-take-le done room d in
     let whole : take count part ≡ part = take_all count part (omega arith) in
     subst (λ r. AreRead s place r) (sym (e ∙ ap (λ r. take done room ++ r) whole))

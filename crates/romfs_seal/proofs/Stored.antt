@@ -17,8 +17,9 @@ pub lowest_stored : (a : Algorithm) (h : Hash) (sized : (m : List ℕ) → IsDig
     → take 4096 (drop (lowest_place a (suc levels) n + 4096 * i) (tree a h (suc levels) xs n)) ≡ block (above a h xs n) i
 unfolding tree block
 lowest_stored a h sized levels xs n i =
-    behind (tree a h levels (above a h xs n) (blocks_above a n)) (above a h xs n) (4096 * tree_blocks a levels (blocks_above a n)) (4096 * i) 4096
-    (length-tree a h sized levels (above a h xs n) (blocks_above a n))
+    let up = above a h xs n in
+    let m = blocks_above a n in
+    behind (tree a h levels up m) up (4096 * tree_blocks a levels m) (4096 * i) 4096 (length-tree a h sized levels up m)
 
 pub upper_stored : (a : Algorithm) (h : Hash) (sized : (m : List ℕ) → IsDigest a (h m)) (levels : ℕ) (xs : List ℕ) (n : ℕ)
     → take (4096 * blocks_above a (blocks_above a n))
@@ -28,11 +29,12 @@ unfolding tree
 upper_stored a h sized levels xs n =
     let up = above a h xs n in
     let m = blocks_above a n in
+    let place = 4096 * tree_blocks a levels (blocks_above a m) in
     let front = tree a h levels (above a h up m) (blocks_above a m) in
     let long = length-tree a h sized levels (above a h up m) (blocks_above a m) in
     let size = (blocks-above a h sized up m).whole in
-    let none : 4096 * tree_blocks a levels (blocks_above a m) ≡ 4096 * tree_blocks a levels (blocks_above a m) + 0 = omega arith in
-    ap (λ l. take (4096 * blocks_above a m) (drop (4096 * tree_blocks a levels (blocks_above a m)) l)) (append_assoc front (above a h up m) up)
+    let none : place ≡ place + 0 = omega arith in
+    ap (λ l. take (4096 * blocks_above a m) (drop place l)) (append_assoc front (above a h up m) up)
     ∙ ap (λ k. take (4096 * blocks_above a m) (drop k (front ++ (above a h up m ++ up)))) none
-    ∙ behind front (above a h up m ++ up) (4096 * tree_blocks a levels (blocks_above a m)) 0 (4096 * blocks_above a m) long
+    ∙ behind front (above a h up m ++ up) place 0 (4096 * blocks_above a m) long
     ∙ take_at (above a h up m) up (4096 * blocks_above a m) size

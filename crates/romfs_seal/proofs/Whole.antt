@@ -58,8 +58,8 @@ only_honest s xs kept (suc k) told is one may =
 some_above : (a : Algorithm) (n : ℕ) → 0 < n → 0 < blocks_above a n
 some_above a n some = (let e = above_within a n 0 some in omega (arith, e))
 
-pub kept_honest : (s : Seal) (sized : (m : List ℕ) → IsDigest s.algorithm (s.hash m)) (xs : List ℕ) (levels : ℕ) (kept : List ℕ) → IsHonest s xs
-    → HasLevels s.algorithm (blocks_of s.size) levels → MayBeKept s levels kept
+pub kept_honest : (s : Seal) (sized : (m : List ℕ) → IsDigest s.algorithm (s.hash m)) (xs : List ℕ) (levels : ℕ) (kept : List ℕ)
+    → IsHonest s xs → HasLevels s.algorithm (blocks_of s.size) levels → MayBeKept s levels kept
     → kept ≡ kept_of s.algorithm s.hash levels (in_blocks xs) (blocks_of (length xs))
 unfolding tree_blocks
 kept_honest s sized xs zero kept o has may =
@@ -220,7 +220,8 @@ leaf_other s (suc below) lowest kept leaf index some op within g other = record 
       let found : leaf ≡ block (above a s.hash bs n) index =
       whole_given s.tree (tree a s.hash (suc below) bs n) leaf (lowest_place a (suc below) n + 4096 * index) held_is
       (subst (λ k. IsGiven s.tree k 4096 leaf) place g) ∙ lowest_stored a s.hash (op.sized) below bs n index in
-      other (ap s.hash found ∙ sym (kept_digest a s.hash (op.sized) below n bs index (here.enough) inside) ∙ ap (λ l. digest_at a l index) (sym (told.1)));
+      other (ap s.hash found ∙ sym (kept_digest a s.hash (op.sized) below n bs index (here.enough) inside)
+      ∙ ap (λ l. digest_at a l index) (sym (told.1)));
 }
 
 pub block_other : (s : Seal) (sized : (m : List ℕ) → IsDigest s.algorithm (s.hash m)) (first : ℕ) (leaf : List ℕ) (i : ℕ) (b : List ℕ)
@@ -233,7 +234,8 @@ block_other s sized first leaf i b leaf_is from less below g other = record {
       let long : length (g.of) ≡ length (block xs i) = g.long ∙ ap (λ k. part_of k i) (o.size) ∙ sym (length-block xs i) in
       let found : g.of ≡ block xs i =
       given_is s.image xs (g.of) (4096 * i) (length (block xs i)) (o.image_held) long (g.given) ∙ block_held xs i in
-      other (ap s.hash (g.is ∙ ap (λ l. filled l) found ∙ sym (block-filled xs i (o.of.bytes) inside)) ∙ sym (leaf_is.right xs u i from less below));
+      other (ap s.hash (g.is ∙ ap (λ l. filled l) found ∙ sym (block-filled xs i (o.of.bytes) inside))
+      ∙ sym (leaf_is.right xs u i from less below));
 }
 
 -- ---- what any fault is
@@ -267,7 +269,8 @@ upper_short s sized (suc (suc below)) many has lacks =
 
 pub upper_kept : (s : Seal) (levels : ℕ) (kept : List ℕ) → 2 ≤ levels
     → length kept ≡ 4096 * blocks_above s.algorithm (blocks_above s.algorithm (blocks_of s.size))
-    → Allows s.tree (4096 * tree_blocks s.algorithm (levels - 2) (blocks_above s.algorithm (blocks_above s.algorithm (blocks_of s.size)))) kept
+    → Allows s.tree
+    (4096 * tree_blocks s.algorithm (levels - 2) (blocks_above s.algorithm (blocks_above s.algorithm (blocks_of s.size)))) kept
     → MayBeKept s levels kept
 upper_kept s zero kept many long given = absurd (omega arith)
 upper_kept s (suc zero) kept many long given = absurd (omega arith)

@@ -174,7 +174,8 @@ impl<F: NamedFiles, A: Allocator> Sealed<F, A> {
         ensures read { IfOk result (λ count.
             AreRead (F.seal self.now.files) offset (take count room.new)) }
         ensures unmatched { IfOk result (λ count. (xs : List ℕ) →
-            IsUnmatched (F.seal self.now.files) xs → take count room.new ≡ take count (drop offset xs)) }
+            IsUnmatched (F.seal self.now.files) xs →
+            take count room.new ≡ take count (drop offset xs)) }
         ensures err { OnErr result (IsTampered (F.seal self.now.files)) }
     {
         let size = self.files.size();

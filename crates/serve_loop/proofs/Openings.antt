@@ -130,7 +130,8 @@ module _ (by : Answering) (nodes : ℕ) (until : Until) (old : Devices) where
   -- there are no turns
   pub over_at_once : (A : Type 0) (turns : ℕ) → turns ≡ 0 → Does (λ t. IsServedUntil {A = A} until by nodes turns t (Err Turns)) old old
   over_at_once A turns none =
-      over {A = A} turns old [] [] (Consumes-nil _) (Appends-nil _) (Err Turns) (no_turns by nodes turns _ _ none) (λ _. nothing_begun by [] refl)
+      over {A = A} turns old [] [] (Consumes-nil _) (Appends-nil _) (Err Turns) (no_turns by nodes turns _ _ none)
+      (λ _. nothing_begun by [] refl)
 
   -- memory was refused before the first turn
   pub never_begun : {A : Type 0} (turns : ℕ) (result : Result (Opening A) StreamFault) → IsErrAnd result (λ fault. fault ≡ Memory)
@@ -144,8 +145,8 @@ module _ (by : Answering) (nodes : ℕ) (until : Until) (old : Devices) where
     not_begun asked = waits_on by nodes turn _ v a.served.messages a.served.runs (a.waiting asked)
 
     -- memory was refused between two turns
-    pub over_for_memory : {A : Type 0} → turn ≤ turns → (result : Result (Opening A) StreamFault) → IsErrAnd result (λ fault. fault ≡ Memory)
-        → Does (λ t. IsServedUntil until by nodes turns t result) old now
+    pub over_for_memory : {A : Type 0} → turn ≤ turns → (result : Result (Opening A) StreamFault)
+        → IsErrAnd result (λ fault. fault ≡ Memory) → Does (λ t. IsServedUntil until by nodes turns t result) old now
     over_for_memory {A} h result e =
         let b = a.served in
         for_memory turns now result e (over {A = A} turns now b.got b.put b.took b.held (Err Memory)

@@ -18,8 +18,8 @@ use Rattle.stack_prepare.specs.Layers.{IsFew, IsLowestBroken, AreRefused}
 use Rattle.stack_prepare.specs.Checking.{accessible, rows_of, lists_of, AreChecked, AreBoth, IsBroken, Checks, IsFirstRefusal, Joins}
 
 -- the images before those that are left keep the rules, and this is what is kept of them
-pub record AreTaken {A : Type 0} (profile : Profile) (all left : List (HeldImage A)) (kept : List HeldBytes) (rows : List (List AttributeRow))
-    (lists : List (List (List Extended))) : Type 0 where
+pub record AreTaken {A : Type 0} (profile : Profile) (all left : List (HeldImage A)) (kept : List HeldBytes)
+    (rows : List (List AttributeRow)) (lists : List (List (List Extended))) : Type 0 where
   pub below : List (HeldImage A)
   pub split : all ≡ below ++ left
   pub sound : All (IsSound profile) (map held_bytes below)
@@ -45,7 +45,8 @@ none_taken profile all = record {
 }
 
 module _ {A : Type 0} {profile : Profile} {all left : List (HeldImage A)} {kept : List HeldBytes} {rows : List (List AttributeRow)}
-    {lists : List (List (List Extended))} (t : AreTaken profile all left kept rows lists) (x : HeldImage A) (rest : List (HeldImage A)) (next : left ≡ x ∷ rest) where
+    {lists : List (List (List Extended))} (t : AreTaken profile all left kept rows lists)
+    (x : HeldImage A) (rest : List (HeldImage A)) (next : left ≡ x ∷ rest) where
   -- an image that keeps the rules moves from those that are left to those that are taken
   pub one_more : (sound : HeldBytes) (its : List AttributeRow) (those : List (List Extended)) → sound ≡ accessible x
       → its ≡ rows_of profile x → those ≡ lists_of profile x → IsSound profile (held_bytes x)
@@ -181,9 +182,11 @@ module _ {A : Type 0} (first : ℕ) (profile : Profile) (lows highs : List (Held
   refused_first : (low high : Result (Checked A) Refusal) (refusal : Refusal) → AreHalves first profile lows highs low high
       → IsFirstRefusal low high refusal → IsBroken first profile all_bytes refusal
   refused_first (Err s) high refusal h is =
-      subst (IsBroken first profile all_bytes) (sym is) (broken_low first profile (map held_bytes lows) (map held_bytes highs) s h.lower.1)
+      subst (IsBroken first profile all_bytes) (sym is)
+      (broken_low first profile (map held_bytes lows) (map held_bytes highs) s h.lower.1)
   refused_first (Ok xs) (Err s) refusal h is =
-      subst (IsBroken first profile all_bytes) (sym is) (broken_high first profile (map held_bytes lows) h.lower.0.sound (map held_bytes highs) s h.upper.1)
+      subst (IsBroken first profile all_bytes) (sym is)
+      (broken_high first profile (map held_bytes lows) h.lower.0.sound (map held_bytes highs) s h.upper.1)
   refused_first (Ok xs) (Ok ys) refusal h is = absurd is
 
   of_all : (refusal : Refusal) → IsBroken first profile all_bytes refusal → IsBroken first profile (map held_bytes (lows ++ highs)) refusal

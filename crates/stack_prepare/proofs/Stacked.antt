@@ -38,7 +38,8 @@ module _ {A : Type 0} {profile : Profile} {images : List (HeldImage A)} {checked
   few_held = subst IsFew (sym (length-map images held_bytes)) seen.few
 
   -- their table is that of the images' stack
-  pub are_stacked : (owner : Owner) (stack : Stacked) → IsTableWith (bytes_of checked.images.items) checked.rows.items checked.lists.items owner stack
+  pub are_stacked : (owner : Owner) (stack : Stacked)
+      → IsTableWith (bytes_of checked.images.items) checked.rows.items checked.lists.items owner stack
       → AreStacked profile owner (map held_bytes images) stack
   are_stacked owner stack table = record {
     layers = record {

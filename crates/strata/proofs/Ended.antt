@@ -46,7 +46,8 @@ module _ (A : Type 0) (words : List (List ℕ)) (line : Line) (images : List (Li
   -- a command whose work gave this result has ended so, with the status 0 if it was done
   pub ended : {E Done : Type 0} {Stopped : E → Type 0} (told : E → Fault) (work : Result (Unit {0}) E) (r : Result ℕ Fault)
       → MatchResult work (λ _. r ≡ Ok 0) (λ fault. r ≡ Err (told fault)) → OnOk work Done → IfErr work Stopped
-      → (Done → IsDoneOver A verb line images old new) → ((fault : E) → Stopped fault → IsStoppedOver A verb line images (told fault) old new)
+      → (Done → IsDoneOver A verb line images old new)
+      → ((fault : E) → Stopped fault → IsStoppedOver A verb line images (told fault) old new)
       → IfOk r (λ status. IsOverWith A words status old new) × IfErr r (λ fault. EndsInFault A words fault old new)
   ended told (Ok u) r same done stopped d s =
       subst (λ r. IfOk r (λ status. IsOverWith A words status old new) × IfErr r (λ fault. EndsInFault A words fault old new)) (sym same)

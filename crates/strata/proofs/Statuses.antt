@@ -168,7 +168,8 @@ work_bad A verbs.Socket line images fault old new s e =
     ]
 work_bad A verbs.Check line images fault old new s e =
     let f = s.1 in
-    let told : (other : ImagesFault) → f.0 ≡ other → images_status other ≡ 3 = λ other same. sym (ap status_of (f.1 ∙ ap Images same)) ∙ e in
+    let told : (other : ImagesFault) → f.0 ≡ other → images_status other ≡ 3 =
+    λ other same. sym (ap status_of (f.1 ∙ ap Images same)) ∙ e in
     elim f.2 [
       | inl (inl g, kept) ↦ elim g [
         | inl r ↦ elim r.refused [

@@ -54,7 +54,8 @@ Have trailers digests images files =
     × AreEachBy IsSourceBy digests (map source_of files)
 
 are_data : {F A : Type 0} (known : F → Option (List ℕ)) (trailers : Trailers) (digests : List (Option Digest))
-    (images : List (LoadedImage F A)) → AreLoadedBy known (how.Open trailers) digests images → Have trailers digests images (files_of images)
+    (images : List (LoadedImage F A)) → AreLoadedBy known (how.Open trailers) digests images
+    → Have trailers digests images (files_of images)
 are_data known trailers digests [] all = (tt, tt)
 are_data known trailers [] (image ∷ images) all = absurd all
 are_data known trailers (digest ∷ digests) (image ∷ images) all =
@@ -153,7 +154,8 @@ loaded_sources line known loading images held files is loaded apart =
     (subst (λ f. HaveSources line (list_all is_whole (held_of images)) (map held_bytes (held_of images)) (map source_of f))
     (sym apart.files_are) (by_way is.is))
   where
-    by_way : (AreReadWhole line is.told × (loading ≡ how.Whole)) ⊎ ((AreReadWhole line is.told → ⊥) × (loading ≡ how.Open (trailers_of line)))
+    by_way : (AreReadWhole line is.told × (loading ≡ how.Whole))
+        ⊎ ((AreReadWhole line is.told → ⊥) × (loading ≡ how.Open (trailers_of line)))
         → HaveSources line (list_all is_whole (held_of images)) (map held_bytes (held_of images)) (map source_of (files_of images))
     by_way (inl whole) =
         no_sources line known images is.told is.each whole.0 (subst (λ l. AreLoadedBy known l line.digests.items images) whole.1 loaded)
@@ -266,12 +268,14 @@ pub loaded_ones : {F A : Type 0} (line : Line) (known : F → Option (List ℕ))
     → AreHeldFor line known images
 loaded_ones {F} {A} line known loading images is loaded = by_way is.is
   where
-    by_way : (AreReadWhole line is.told × (loading ≡ how.Whole)) ⊎ ((AreReadWhole line is.told → ⊥) × (loading ≡ how.Gather (trailers_of line)))
+    by_way : (AreReadWhole line is.told × (loading ≡ how.Whole))
+        ⊎ ((AreReadWhole line is.told → ⊥) × (loading ≡ how.Gather (trailers_of line)))
         → AreHeldFor line known images
     by_way (inl whole) = each_loaded known how.Whole (IsHeldBy known (trailers_of line)) (whole_one known (trailers_of line))
         line.digests.items images (subst (λ l. AreLoadedBy known l line.digests.items images) whole.1 loaded)
     by_way (inr left) = each_loaded known (how.Gather (trailers_of line)) (IsHeldBy known (trailers_of line))
-        (gathered_one known (trailers_of line)) line.digests.items images (subst (λ l. AreLoadedBy known l line.digests.items images) left.1 loaded)
+        (gathered_one known (trailers_of line)) line.digests.items images
+        (subst (λ l. AreLoadedBy known l line.digests.items images) left.1 loaded)
 
 -- images that are prepared with their files are prepared with all of these, borrowed
 pub seen_as : {F A B : Type 0} (line : Line) (images : List (List ℕ)) (stack : Stacked) (files : Vec (ImageData F A) B)

@@ -93,18 +93,20 @@ opened_by : {F A : Type 0} (line : Line) (known : F → Option (List ℕ)) (load
 opened_by {F} {A} line known loading images is loaded = by_way is.is
   where
     all_by : (its : Loading)
-        → ((digest : Option Digest) (image : LoadedImage F A) → IsLoadedBy known its digest image → IsReadBy (trailers_of line) digest image)
+        → ((digest : Option Digest) (image : LoadedImage F A) → IsLoadedBy known its digest image
+        → IsReadBy (trailers_of line) digest image)
         → loading ≡ its → AreReadBy (trailers_of line) line.digests.items images
     all_by its one e =
         each_read (trailers_of line) (IsReadBy (trailers_of line)) (λ digest image read. read) line.digests.items images
         (each_loaded known its (IsReadBy (trailers_of line)) one line.digests.items images
         (subst (λ l. AreLoadedBy known l line.digests.items images) e loaded))
 
-    by_way : (AreReadWhole line is.told × (loading ≡ how.Whole)) ⊎ ((AreReadWhole line is.told → ⊥) × (loading ≡ how.Open (trailers_of line)))
+    by_way : (AreReadWhole line is.told × (loading ≡ how.Whole))
+        ⊎ ((AreReadWhole line is.told → ⊥) × (loading ≡ how.Open (trailers_of line)))
         → AreReadBy (trailers_of line) line.digests.items images
     by_way (inl whole) =
-        all_by how.Whole (λ digest image its. held_one known (trailers_of line) digest image (whole_one known (trailers_of line) digest image its))
-        whole.1
+        let trailers = trailers_of line in
+        all_by how.Whole (λ digest image its. held_one known trailers digest image (whole_one known trailers digest image its)) whole.1
     by_way (inr left) = all_by (how.Open (trailers_of line)) (open_one known (trailers_of line)) left.1
 
 -- and so were those that serve

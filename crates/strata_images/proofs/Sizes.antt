@@ -55,7 +55,8 @@ all_sized v profile all left sizes s none =
 -- an image that is not good is the first one
 pub first_refused : {X Y : Type 0} {v : X → List ℕ} {profile : Profile} {all : List (List ℕ)} {left : List X} {sizes : List ℕ}
     → AreSized v profile all left sizes → (x : X) (rest : List X) → left ≡ x ∷ rest → (n : ℕ) → n ≡ length sizes → (fault : ImagesFault)
-    → IsImageFault profile n (v x) fault → (r : Result Y ImagesFault) → IsErrAnd r (λ told. told ≡ fault) → IfErr r (IsFirstFault profile all)
+    → IsImageFault profile n (v x) fault → (r : Result Y ImagesFault) → IsErrAnd r (λ told. told ≡ fault)
+    → IfErr r (IsFirstFault profile all)
 first_refused s x rest l n e fault f (Ok y) same = absurd same
 first_refused {v = v} {profile} {all} s x rest l n e fault f (Err told) same =
     subst (IsFirstFault profile all) (sym same) (inl (record {

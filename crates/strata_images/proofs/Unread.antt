@@ -24,7 +24,9 @@ module _ (line : Line) (loading otherwise : Loading) (is : IsLoadingOf line othe
   in_part : ReadsTrailer loading → (line.whole ≡ false) × (trailers_of line ≡ Read)
   in_part reads = elim is.is [
     | inl whole ↦ absurd (subst ReadsTrailer whole.1 reads)
-    | inr left ↦ (elim (cases_Bool line.whole) [ inl all ↦ absurd (left.0 (inl all)) | inr none ↦ none ], read (subst ReadsTrailer left.1 reads))
+    | inr left ↦
+        let not_all : line.whole ≡ false = elim (cases_Bool line.whole) [ inl all ↦ absurd (left.0 (inl all)) | inr none ↦ none ] in
+        (not_all, read (subst ReadsTrailer left.1 reads))
   ]
 
   unread : (count : ℕ) (digests : List (Option Digest)) (fault : FilesFault) → count ≡ vec_len line.images → digests ≡ line.digests.items

@@ -20,6 +20,7 @@ use node_list::write_list;
 use romfs_files::{LoadedImage, apart};
 use stack_prepare::{FreePass, HeldImage, Owner, Table, prepare};
 use std::alloc::Allocator;
+use std::fs::Files;
 use std::io::Write;
 use std::os::unix::fs::FileExt;
 use std::thread::Threads;
@@ -28,20 +29,16 @@ use strata_words::Line;
 /// Checks the images of a line, stacks them, and writes a line for each visible path. Then it notes
 /// the images with a trailer that the line does not ask for. If an image is broken nothing is
 /// written.
-pub fn list<
-    R: Threads + Sync,
-    F: FileExt + Drop,
-    A: Allocator + Copy + Send + Sync,
-    K: Sink,
-    E: Write,
->(
+pub fn list<R: Files + Threads + Sync, A: Allocator + Copy + Send + Sync, K: Sink, E: Write>(
     rt: &R,
     alloc: A,
     line: &Line<'_>,
-    images: Vec<LoadedImage<F, A>, A>,
+    images: Vec<LoadedImage<R::File, A>, A>,
     output: &mut K,
     notes: &mut E,
 ) -> Result<(), ImagesFault>
+where
+    R::File: FileExt,
     requires { (K.state output.old).counts.failures < 2 ^ 63 }
     ensures done { OnOk result (IsStackListed (profile_of line.now) (loaded_contents images)
         (K.state output.old) (K.state output.new)) }

@@ -63,12 +63,15 @@ faultless words line Version is told = absurd (not_refused words DisplayVersion 
 faultless words line (Fault Memory) is told = refl
 faultless words line (Fault (Usage text)) is told = elim told [
   | inl refused ↦ absurd (not_refused words refused.why is.taken refused.refused)
-  | inr (inl bad) ↦ absurd (bad.wrong (subst HaveNumbersInRange (same_rows (command_in words) _ _ is.rows bad.rows is.command bad.command)
-      is.holds.numbered))
-  | inr (inr (inl bad)) ↦ absurd (is.holds.apart (subst AreCrossed (same_rows (command_in words) _ _ bad.rows is.rows bad.command is.command)
-      bad.crossed))
-  | inr (inr (inr bad)) ↦ absurd (bad.wrong (subst HaveDigests (same_rows (command_in words) _ _ is.rows bad.rows is.command bad.command)
-      is.holds.digested))
+  | inr (inl bad) ↦
+      let rows_are = same_rows (command_in words) _ _ is.rows bad.rows is.command bad.command in
+      absurd (bad.wrong (subst HaveNumbersInRange rows_are is.holds.numbered))
+  | inr (inr (inl bad)) ↦
+      let rows_are = same_rows (command_in words) _ _ bad.rows is.rows bad.command is.command in
+      absurd (is.holds.apart (subst AreCrossed rows_are bad.crossed))
+  | inr (inr (inr bad)) ↦
+      let rows_are = same_rows (command_in words) _ _ is.rows bad.rows is.command bad.command in
+      absurd (bad.wrong (subst HaveDigests rows_are is.holds.digested))
 ]
 
 -- words that have a line meet no fault but lack of memory

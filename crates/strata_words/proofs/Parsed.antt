@@ -263,8 +263,8 @@ names_as rows line says =
     ) refl
 
 -- a line that says what the rows give, and names no file beside the device, holds them
-pub held : (rows : List Row) (line : Line) → HaveNumbersInRange rows → HaveDigests rows → Says line (parts_of line.verb rows) → names_both line ≡ false
-    → HoldsRows rows line
+pub held : (rows : List Row) (line : Line) → HaveNumbersInRange rows → HaveDigests rows → Says line (parts_of line.verb rows)
+    → names_both line ≡ false → HoldsRows rows line
 held rows line numbered digested says apart = record {
   numbered = numbered;
   digested = digested;

@@ -14,8 +14,8 @@ returns-clause-count g t c =
     let (low_digests, high_digests) = c.split_at-2.result in
     let (high, low) = c.join-high.result in
     let parts = c.split_at-2.ensures in
-    let upper = subst (λ n. IsReadUpTo c.args.loading (c.args.first + n) high_digests.now (vec_len high.images) high.end) (sym parts.front_len)
-    c.join-high.ensures.first.0 in
+    let upper = subst (λ n. IsReadUpTo c.args.loading (c.args.first + n) high_digests.now (vec_len high.images) high.end)
+    (sym parts.front_len) c.join-high.ensures.first.0 in
     subst (λ ds. IsReadUpTo c.args.loading c.args.first ds (vec_len c.both.result.images) c.both.result.end)
     (halves _ low_digests.now high_digests.now c.args.digests.now parts.front parts.back)
     (c.both.ensures.read c.args.loading c.args.first low_digests.now high_digests.now c.join-high.ensures.second.0 upper)
@@ -25,8 +25,9 @@ returns-clause-read g t c =
     let (high, low) = c.join-high.result in
     let (low_digests, high_digests) = c.split_at-2.result in
     let parts = c.split_at-2.ensures in
-    both_loaded g.R.File.Read.remaining c.args.loading c.args.first low_digests.now high_digests.now c.args.digests.now low.images.items
-    high.images.items c.both.result.images.items low.end (halves _ low_digests.now high_digests.now c.args.digests.now parts.front parts.back)
+    both_loaded g.R.File.Read.remaining c.args.loading c.args.first low_digests.now high_digests.now c.args.digests.now
+    low.images.items high.images.items c.both.result.images.items low.end
+    (halves _ low_digests.now high_digests.now c.args.digests.now parts.front parts.back)
     (subst (λ m. IsReadUpTo c.args.loading c.args.first low_digests.now m low.end) low.images.ok.0 c.join-high.ensures.second.0)
     c.both.ensures.either c.join-high.ensures.second.1 c.join-high.ensures.first.1
 

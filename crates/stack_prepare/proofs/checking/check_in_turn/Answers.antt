@@ -51,7 +51,7 @@ returns-in-Err-Broken g c =
       c.len-in-loop-image.ensures,
       c.loop-image.checked.ok,
     ) in
-    let broken = subst (λ fault. IsRefusal c.args.profile (held_bytes image) fault) c.in-Err-Broken.field-0-is c.in-Err-Broken.ensures.err in
+    let broken = subst (IsRefusal c.args.profile (held_bytes image)) c.in-Err-Broken.field-0-is c.in-Err-Broken.ensures.err in
     let why = next_breaks c.loop-image.invariant.done image _ c.in-Some.ensures.steps.0 c.args.first c.len-in-loop-image.result
     c.in-Err-Broken.fault number broken in (
       tt,

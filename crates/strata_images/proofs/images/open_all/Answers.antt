@@ -30,5 +30,6 @@ pub returns-in_err-images-clause-err : goal.returns-in_err-images-clause-err
 returns-in_err-images-clause-err g c =
     unread_told c.args.line.now c.loading_of-loading.result (how.Open (trailers_of c.args.line.now))
     (subst (λ t. IsLoadingOf c.args.line.now (how.Open t) c.loading_of-loading.result) c.trailers_of.ensures c.loading_of-loading.ensures)
-    (λ read. read) _ _ c.in_err-images.field-0.0 c.from_residual.result (omega (arith, c.as_slice-paths.ensures.len)) c.as_slice.ensures.value
+    (λ read. read) _ _ c.in_err-images.field-0.0 c.from_residual.result
+    (omega (arith, c.as_slice-paths.ensures.len)) c.as_slice.ensures.value
     c.in_err-images.ensures.err c.from_residual.ensures.1

@@ -13,5 +13,5 @@ returns-in-None-clause-err c =
     inr (not_named c.args.given.now c.loop-text.text-index nothing (omega arith) (sym c.named_in.ensures ∙ c.in-None.is))
 
 pub loop-text-preserved : goal.loop-text-preserved
-loop-text-preserved c = goes_on c.args.given.now c.loop-text.text-index nothing c.in-Some.named c.loop-text.digests.items c.push.new.self.items
-    (omega arith) (sym c.named_in.ensures ∙ c.in-Some.is) c.loop-text.invariant c.in_ok-push-in-Some.ensures.items
+loop-text-preserved c = goes_on c.args.given.now c.loop-text.text-index nothing c.in-Some.named c.loop-text.digests.items
+    c.push.new.self.items (omega arith) (sym c.named_in.ensures ∙ c.in-Some.is) c.loop-text.invariant c.in_ok-push-in-Some.ensures.items

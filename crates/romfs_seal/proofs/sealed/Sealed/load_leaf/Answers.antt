@@ -32,24 +32,30 @@ pub returns-then-has_digest-clause-ok : goal.returns-then-has_digest-clause-ok
 returns-then-has_digest-clause-ok g c =
     let s = g.F.NamedFiles.seal c.args.self.now.files in
     let by : c.fan.result ≡ fan s.algorithm = c.fan.ensures.count ∙ ap fan c.algorithm.ensures in
-    let given : IsGiven s.tree (c.args.self.now.lowest + 4096 * (c.args.block / fan s.algorithm)) 4096 c.fill_tree.new.block =
-    subst (λ k. IsGiven s.tree (c.args.self.now.lowest + 4096 * (c.args.block / k)) 4096 c.fill_tree.new.block) by c.in_ok-fill_tree.ensures.ok in
-    let there : s.hash c.fill_tree.new.block ≡ digest_at s.algorithm c.args.self.now.kept.items (c.args.block / fan s.algorithm) =
+    let lowest = c.args.self.now.lowest in
+    let kept = c.args.self.now.kept.items in
+    let leaf = c.fill_tree.new.block in
+    let given : IsGiven s.tree (lowest + 4096 * (c.args.block / fan s.algorithm)) 4096 leaf =
+    subst (λ k. IsGiven s.tree (lowest + 4096 * (c.args.block / k)) 4096 leaf) by c.in_ok-fill_tree.ensures.ok in
+    let there : s.hash leaf ≡ digest_at s.algorithm kept (c.args.block / fan s.algorithm) =
     c.if-has_digest.ensures.there refl ∙ ap (λ l. digest_at s.algorithm l (c.args.block / c.fan.result)) c.deref-2.ensures.value
-    ∙ ap (λ k. digest_at s.algorithm c.args.self.now.kept.items (c.args.block / k)) by in
-    leaf_kept s c.args.self.now.levels c.args.self.now.lowest c.args.self.now.kept.items c.fill_tree.new.block c.args.block
-    c.if-self-eq0.false c.args.self.now.opened (above_within s.algorithm (blocks_of s.size) c.args.block c.requires.within)
-    (given_block s.tree (c.args.self.now.lowest + 4096 * (c.args.block / fan s.algorithm)) c.fill_tree.new.block given) given there
+    ∙ ap (λ k. digest_at s.algorithm kept (c.args.block / k)) by in
+    leaf_kept s c.args.self.now.levels lowest kept leaf c.args.block c.if-self-eq0.false c.args.self.now.opened
+    (above_within s.algorithm (blocks_of s.size) c.args.block c.requires.within)
+    (given_block s.tree (lowest + 4096 * (c.args.block / fan s.algorithm)) leaf given) given there
 
 pub returns-else-has_digest-clause-err : goal.returns-else-has_digest-clause-err
 returns-else-has_digest-clause-err g c =
     let s = g.F.NamedFiles.seal c.args.self.now.files in
     let by : c.fan.result ≡ fan s.algorithm = c.fan.ensures.count ∙ ap fan c.algorithm.ensures in
-    let given : IsGiven s.tree (c.args.self.now.lowest + 4096 * (c.args.block / fan s.algorithm)) 4096 c.fill_tree.new.block =
-    subst (λ k. IsGiven s.tree (c.args.self.now.lowest + 4096 * (c.args.block / k)) 4096 c.fill_tree.new.block) by c.in_ok-fill_tree.ensures.ok in
-    leaf_other s c.args.self.now.levels c.args.self.now.lowest c.args.self.now.kept.items c.fill_tree.new.block
+    let lowest = c.args.self.now.lowest in
+    let kept = c.args.self.now.kept.items in
+    let leaf = c.fill_tree.new.block in
+    let given : IsGiven s.tree (lowest + 4096 * (c.args.block / fan s.algorithm)) 4096 leaf =
+    subst (λ k. IsGiven s.tree (lowest + 4096 * (c.args.block / k)) 4096 leaf) by c.in_ok-fill_tree.ensures.ok in
+    leaf_other s c.args.self.now.levels lowest kept leaf
     (c.args.block / fan s.algorithm) c.if-self-eq0.false c.args.self.now.opened
     (above_within s.algorithm (blocks_of s.size) c.args.block c.requires.within) given
     (λ e. c.if-has_digest.ensures.not refl
-    (e ∙ ap (λ k. digest_at s.algorithm c.args.self.now.kept.items (c.args.block / k)) (sym by)
+    (e ∙ ap (λ k. digest_at s.algorithm kept (c.args.block / k)) (sym by)
     ∙ ap (λ l. digest_at s.algorithm l (c.args.block / c.fan.result)) (sym c.deref-2.ensures.value)))

@@ -50,7 +50,8 @@ returns-in_ok-images-in-Serve g c =
     let line = c.args.line.now in
     let both = λ (words : List (List ℕ)) (is : IsLineOf words c.args.line.now).
     let read = c.in_ok-images-in-Serve.ensures.read in
-    ended g.row.A.Denot words line _ verbs.Serve _ _ is read c.in-Serve.is (λ (fault : Fault). fault) c.serve.result c.as_status.result c.as_status.ensures
+    ended g.row.A.Denot words line _ verbs.Serve _ _ is read c.in-Serve.is (λ (fault : Fault). fault) c.serve.result
+    c.as_status.result c.as_status.ensures
     c.serve.ensures.done c.serve.ensures.stopped (λ d. d) (λ fault s. s) in
     record { over = λ words read. (both words read).0; stopped = λ words read. (both words read).1 }
 
