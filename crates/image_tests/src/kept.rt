@@ -264,8 +264,8 @@ fn a_failed_read_of_a_trailer_is_told(rt: HostRuntime) {
     assert_eq!(rt; told, Err(GatherFault::Unread));
 }
 
-/// A file of this many bytes: an image of this full size, and after it a trailer of one row, for the
-/// root. A read returns one byte.
+/// A file of this many bytes: an image of this full size, and after it a trailer of one row, for
+/// the root. A read returns one byte.
 #[derive(Drop)]
 struct Long {
     size: u64,

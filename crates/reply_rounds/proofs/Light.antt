@@ -148,7 +148,8 @@ module _ (body : List ℕ) (b : AreBytes body) where
                                         (
                                           sized_modest BATCH_FORGET 8 (λ body. silent (batch_forget (forgets_of body))) batch_modest,
                                           (
-                                            sized_modest READDIRPLUS 40 (λ body. at_node (readdirplus (field 8 8 body) (field 4 16 body))) (narrow 16 body b),
+                                            sized_modest READDIRPLUS 40 (λ body. at_node (readdirplus (field 8 8 body) (field 4 16 body)))
+                                                (narrow 16 body b),
                                             tt,
                                           ),
                                         ),

@@ -51,8 +51,8 @@ word_front a at reach xs f k l m = word_same xs a k (at + k) (λ i n.
     sym (f.is (k + i) (omega arith) (omega arith)) ∙ ap (λ x. get_or a x 0) (let g : at + (k + i) ≡ at + k + i = omega arith in g))
 
 -- a name of this length is as many of the bytes after its header
-pub name_front : {reach : ℕ} (a : List ℕ) (h : ℕ) (xs : List ℕ) → IsFront a (h + 16) reach xs → (n : ℕ) → n ≡ length (name_of a h) → n ≤ length xs
-    → h + 16 ≤ length a → take n xs ≡ name_of a h
+pub name_front : {reach : ℕ} (a : List ℕ) (h : ℕ) (xs : List ℕ) → IsFront a (h + 16) reach xs
+    → (n : ℕ) → n ≡ length (name_of a h) → n ≤ length xs → h + 16 ≤ length a → take n xs ≡ name_of a h
 name_front a h xs f n e l m =
     let w = name_within a h m in
     let d = length-drop (h + 16) a in

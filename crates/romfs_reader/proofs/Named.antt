@@ -1,5 +1,6 @@
 -- What the name that was read says about the true one, with the empty name for one that is not ended: a name with bytes is ended
--- (`some_name`), and none is `.` or `..` (`dotted`), as none of more than two bytes is (`no_dots`). Beyond the image there is none (`unnamed`).
+-- (`some_name`), and none is `.` or `..` (`dotted`), as none of more than two bytes is (`no_dots`). Beyond the image there is none
+-- (`unnamed`).
 use Rattle.std.proofs.Common.{◌≡◌, ◌≢◌, ◌∙◌, sym, ap, ℕ, ◌+◌, ◌<◌, List, [], length, Option, Some, None, IsSome, Bool, true, false, refl, arith}
 use Rattle.std.specs.Prelude.{codes, unwrap_or}
 use Rattle.std.specs.Str.{bytes_eq}

@@ -112,7 +112,8 @@ impl<A: Allocator> Image<A> {
     pub fn head(&self, offset: u32) -> Option<Head>
         ensures value { IsHeadAt self.now.bytes offset result }
         ensures given { (g : Head) → IsGiven self.now.bytes g → g.offset ≡ offset →
-            (result ≡ Some g) ⊎ ((offset ≡ root_of self.now.bytes) × IsNone (name self.now.bytes offset)) }
+            (result ≡ Some g)
+            ⊎ ((offset ≡ root_of self.now.bytes) × IsNone (name self.now.bytes offset)) }
     {
         self.view().head(offset)
     }

@@ -11,9 +11,10 @@ hints_of-requires g c = rw c.deref.ensures.value (have_keys _ _ _ _ c.requires.1
 
 pub invariant_of-result-2 : goal.invariant_of-result-2
 invariant_of-result-2 g c =
-    let mine : Listed (bytes_of c.args.layers.items) = (c.requires.0, ∣ c.requires.1.listing ∣₁) in
-    let table = subst (λ (e : List Entry). IsTable (stacked (bytes_of c.args.layers.items) e) c.args.nodes.items c.args.directories c.args.blocks)
-    (ap (λ x. x.0) (listed_once (bytes_of c.args.layers.items) mine c.result-1.given.0)) c.requires.1 in
+    let layers = bytes_of c.args.layers.items in
+    let mine : Listed layers = (c.requires.0, ∣ c.requires.1.listing ∣₁) in
+    let table = subst (λ (e : List Entry). IsTable (stacked layers e) c.args.nodes.items c.args.directories c.args.blocks)
+    (ap (λ x. x.0) (listed_once layers mine c.result-1.given.0)) c.requires.1 in
     record {
       table = record { listing = table.listing; are = table.are; blocks_are = table.blocks_are };
       briefs_are = rw (c.deref-2.ensures.value, c.deref-3.ensures.value, ← c.deref-4.ensures.value, ← c.in_ok-stamped.ensures.rows)

@@ -7,7 +7,8 @@ loop-head-init g c = rw c.into_iter-head-iterator.ensures.into_iter_gives c.memb
 
 pub target-end-requires : goal.target-end-requires
 target-end-requires g c =
-    All-head (λ head. IsGiven c.args.image.now.bytes head) c.in-Some.head c.next.new.self (rw c.in-Some.ensures.steps at c.loop-head.invariant)
+    All-head (λ head. IsGiven c.args.image.now.bytes head) c.in-Some.head c.next.new.self
+    (rw c.in-Some.ensures.steps at c.loop-head.invariant)
 
 pub loop-head-preserved : goal.loop-head-preserved
 loop-head-preserved g c =
