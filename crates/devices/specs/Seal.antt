@@ -62,7 +62,7 @@ MayBeKept s zero kept = MayBeOnly s s.size kept
 MayBeKept s (suc zero) kept = MayBeFirst s kept
 MayBeKept s (suc (suc levels)) kept =
     (length kept ≡ kept_len s.algorithm (suc (suc levels)) (blocks_of s.size))
-    × Allows s.tree (4096 * tree_blocks s.algorithm levels
+    × AreBytes kept × Allows s.tree (4096 * tree_blocks s.algorithm levels
     (blocks_above s.algorithm (blocks_above s.algorithm (blocks_of s.size)))) kept
 
 -- with the size that is reported, this is kept of a file with the digest that is reported

@@ -25,9 +25,9 @@ pub struct Pulls {
     pub pulls: u64,
     /// How often a pull met the end.
     pub ends: u64,
-    /// The outcome of the last pull; `None` before the first.
+    /// How often a pull failed.
     pub failures: u64,
-    /// What the last pull was. There is none before the first.
+    /// The outcome of the last pull; `None` before the first.
     pub last: Option<LastPull>,
 }
 

@@ -4,7 +4,7 @@ use Rattle.std.proofs.lemmas.List.{take_all, length-replicate}
 use Rattle.devices.specs.Given.{Given, these, Allows, IsShort}
 use Rattle.devices.proofs.Held.{take_self}
 use Rattle.devices.specs.declared.algorithm.Algorithm.{Algorithm}
-use Rattle.devices.specs.Tree.{Hash, IsBlock, IsDigest, HasLevels, digest_size, fan, block, digest_at, blocks_above, above, root, root_hash, tree, tree_blocks}
+use Rattle.devices.specs.Tree.{Hash, AreBytes, IsBlock, IsDigest, HasLevels, digest_size, fan, block, digest_at, blocks_above, above, root, root_hash, tree, tree_blocks}
 use Rattle.devices.specs.File.{blocks_of, in_blocks, filled, descriptor}
 use Rattle.romfs_seal.proofs.Fans.{above_within, one_level_less, one_block, one_count, many_blocks}
 use Rattle.romfs_seal.proofs.Levels.{block-is, block-only, blocks-above}
@@ -90,7 +90,7 @@ kept_honest s sized xs (suc (suc below)) kept o has may =
     let held_is : s.tree ≡ these (tree a s.hash (suc (suc below)) bs n) = o.tree_held ∙ ap (λ k. these (tree a s.hash k bs n)) levels in
     let long : length kept ≡ 4096 * blocks_above a (blocks_above a n) = may.0 ∙ ap (λ k. 4096 * blocks_above a (blocks_above a k)) count in
     let given : Allows s.tree (4096 * tree_blocks a below (blocks_above a (blocks_above a n))) kept =
-    subst (λ k. Allows s.tree (4096 * tree_blocks a below (blocks_above a (blocks_above a k))) kept) count (may.1) in
+    subst (λ k. Allows s.tree (4096 * tree_blocks a below (blocks_above a (blocks_above a k))) kept) count (may.2) in
     given_is s.tree (tree a s.hash (suc (suc below)) bs n) kept (4096 * tree_blocks a below (blocks_above a (blocks_above a n)))
     (4096 * blocks_above a (blocks_above a n)) held_is long given
     ∙ upper_stored a s.hash sized below bs n
@@ -268,17 +268,18 @@ upper_short s sized (suc (suc below)) many has lacks =
     (subst (λ k. IsShort s.tree (4096 * tree_blocks a k m) (4096 * m)) e lacks)
 
 pub upper_kept : (s : Seal) (levels : ℕ) (kept : List ℕ) → 2 ≤ levels
-    → length kept ≡ 4096 * blocks_above s.algorithm (blocks_above s.algorithm (blocks_of s.size))
+    → length kept ≡ 4096 * blocks_above s.algorithm (blocks_above s.algorithm (blocks_of s.size)) → AreBytes kept
     → Allows s.tree
     (4096 * tree_blocks s.algorithm (levels - 2) (blocks_above s.algorithm (blocks_above s.algorithm (blocks_of s.size)))) kept
     → MayBeKept s levels kept
-upper_kept s zero kept many long given = absurd (omega arith)
-upper_kept s (suc zero) kept many long given = absurd (omega arith)
-upper_kept s (suc (suc below)) kept many long given =
+upper_kept s zero kept many long bytes given = absurd (omega arith)
+upper_kept s (suc zero) kept many long bytes given = absurd (omega arith)
+upper_kept s (suc (suc below)) kept many long bytes given =
     let a = s.algorithm in
     let m = blocks_above a (blocks_above a (blocks_of s.size)) in
     let e : suc (suc below) - 2 ≡ below = omega arith in (
       long,
+      bytes,
       subst (λ k. Allows s.tree (4096 * tree_blocks a k m) kept) e given,
     )
 

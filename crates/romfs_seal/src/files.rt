@@ -52,6 +52,7 @@ pub trait NamedFiles {
     fn read_tree(&self, room: &mut [u8], place: u64) -> Result<(), Unread>
         requires { place + length room.old < 2 ^ 64 }
         ensures ok { OnOk result (Allows (seal self.now).tree place room.new) }
+        ensures bytes { AreBytes room.new }
         ensures err { OnErr result (IsShort (seal self.now).tree place (length room.old)) };
 
     ghost sized: { (files : Self) (bytes : List ℕ) →

@@ -213,7 +213,19 @@ listed_stack name =
           ∷ (record { name = name; value = [] } ∷ []) ∷ []) ∷ [];
     }
 
--- a node has the list of its row; if no shown node has any, the stack has none
+-- two layers, each with a row for a header of one number, and an attribute there
+abbrev pub listed_layers : Stacked
+listed_layers = record {
+  layers = [] ∷ [] ∷ [];
+  entries = two_layers;
+  rows = (row_for 0x60 0o644 ∷ []) ∷ (row_for 0x60 0o755 ∷ []) ∷ [];
+  lists = ((user_a (codes "low") ∷ []) ∷ []) ∷ ((user_a (codes "high") ∷ []) ∷ []) ∷ [];
+  owner = ROOT;
+  whole = true;
+}
+
+-- a node has the list of its row in its own layer, so a merged directory has the upper one's alone
+-- (overlayfs.rst); if no shown node has any, the stack has none
 pub record XattrExamples : Type 0 where
   pub directory : xattrs_of (listed_stack (codes "user.b")) (0, 12) ≡ user_a (codes "b") ∷ []
   pub file : xattrs_of (listed_stack (codes "user.b")) (0, 20)
@@ -227,6 +239,8 @@ pub record XattrExamples : Type 0 where
   pub of_no_node : has_xattrs (record owned_stack {
     lists = ([] ∷ (user_a (codes "c") ∷ []) ∷ [] ∷ []) ∷ [];
   }) ≡ false
+  pub of_upper : xattrs_of listed_layers (1, 0x60) ≡ user_a (codes "high") ∷ []
+  pub of_lower : xattrs_of listed_layers (0, 0x60) ≡ user_a (codes "low") ∷ []
 
 -- the limit of a stack
 pub record LimitExamples : Type 0 where
