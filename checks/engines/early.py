@@ -8,6 +8,7 @@ import time
 from checks.engines.layers import end, kind_of, lowers_of, overlay, put, without_images
 from checks.registry.tree import tree
 from checks.shared.mounting import hold, wait_until
+from strata_snapshotter import image_maker
 from strata_snapshotter.snapshots import UNPACKED
 from strata_snapshotter.state import Form, Kind
 
@@ -153,6 +154,25 @@ def check_waiting_for_images(snapshotter):
     hold("paths", ["large", "one", "two"], sorted(os.listdir(lower)))
 
 
+def check_rests(snapshotter):
+    """No image is begun or goes on while something is asked, unless that lasts too long, or a call
+    waits for it."""
+    snapshots = with_layers(snapshotter, ["one"])
+    maker, begin = snapshots.maker, time.monotonic()
+    maker.resting, image_maker.RESTING_MOST = 1000, 0.2
+    one = maker.next()
+    hold("it rests", True, time.monotonic() - begin >= 0.2)
+    maker.left = 1000
+    making = threading.Thread(target=maker.make, args=(one,))
+    making.start()
+    time.sleep(0.2)
+    hold("it rests", Form.PENDING, snapshots.stat("one").form)
+    maker.wait(one.id)
+    making.join()
+    hold("it is made", Form.IMAGE, snapshots.stat("one").form)
+    go_on(snapshotter, snapshots)
+
+
 def check_what_lies_below_what(snapshotter):
     """Whatever of a chain is images, of which folders are left: a snapshot lies on folders of the
     highest layers, and on one mount of images alone, below these."""
@@ -181,4 +201,4 @@ def check_what_lies_below_what(snapshotter):
 
 CHECKS = (check_what_early_containers_lie_on, check_mounts_for_early_containers,
           check_early_containers_and_kills, check_commits_of_early_containers,
-          check_waiting_for_images, check_what_lies_below_what)
+          check_waiting_for_images, check_rests, check_what_lies_below_what)

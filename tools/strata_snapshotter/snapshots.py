@@ -122,6 +122,7 @@ class Snapshots:
         with self.lock:
             parent = self.parent_of(name, parent_name)
         is_unpacked = is_unpacked_to(name)
+        self.maker.note_call()
         with self.ahead.coming_over(parent if is_unpacked else None):
             if kind == Kind.ACTIVE and REFERENCE in labels:
                 self.take_ready(name, parent, labels)
@@ -243,6 +244,7 @@ class Snapshots:
 
     def mounts(self, name):
         """The mounts of a snapshot that is not committed."""
+        self.maker.note_call()
         with self.lock:
             snapshot = self.found(name)
             if snapshot.kind == Kind.COMMITTED:
@@ -266,6 +268,7 @@ class Snapshots:
 
     def commit(self, name, key, labels):
         """Makes a committed snapshot of an active one, under a new name."""
+        self.maker.note_call()
         with self.lock:
             snapshot = self.committable(name, key)
             given = given_image(self.places.files(snapshot.id))
