@@ -155,8 +155,8 @@ def check_waiting_for_images(snapshotter):
 
 
 def check_rests(snapshotter):
-    """No image is begun or goes on while something is asked, unless that lasts too long, or a call
-    waits for it."""
+    """No image is begun or goes on while calls come, unless that lasts too long, or one waits for
+    it."""
     snapshots = with_layers(snapshotter, ["one"])
     maker, begin = snapshots.maker, time.monotonic()
     maker.resting, image_maker.RESTING_MOST = 1000, 0.2

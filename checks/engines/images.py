@@ -59,7 +59,7 @@ def lowest():
 # refuses links to files of lower layers alone); the long one has more layers than strata stacks; the
 # third layer of the slow one has so many files that its image takes longer than a container's start
 PLAIN, ODD, LINKED, LONG, SLOW = "plain", "odd", "linked", "long", "slow"
-LONG_LAYERS, SLOW_FILES = 130, 10000
+LONG_LAYERS, SLOW_FILES = 130, 3000
 
 
 def layers(kind=PLAIN):

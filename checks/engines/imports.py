@@ -39,6 +39,8 @@ def check_right_after_an_import(machine):
     machine.bring(archive)
     process = begin_writing(machine, "early", image)
     lowers = hold_early(machine, process)
+    said = machine.ctr("snapshots", "--snapshotter", "strata", "mounts", "/mnt", "early")
+    hold("what ctr shows", [], [it for it in lowers if "/%s" % it not in said])
     hold_same(wanted, seen_of_image(process))
     machine.snapshotter.settled()
     later = begin_writing(machine, "later", image)

@@ -1,6 +1,6 @@
 """Makes images of committed layers, one after another, in a thread of its own. Those that a call
-waits for come first; with others it rests while something is asked, so that they take no processor
-from a container that starts.
+waits for come first; over others it rests for a moment after each call, so that they take no
+processor from a container that starts.
 
 A layer becomes an image if all below it are images. One that an image doesn't hold, or that is
 above the most layers that strata stacks, stays a folder, and so does all above it; each is logged
@@ -26,7 +26,7 @@ from strata_snapshotter.state import Form
 LAYERS_MOST = 128
 # seconds until it is looked whether who waits is still there, and until a fault is tried again
 LOOKING, AGAIN = 1, 5
-# so many seconds after a call no image is made; and so many at most it rests over one image
+# seconds of rest after a call, and the most of them over one image
 RESTING, RESTING_MOST = 0.3, 10
 
 
@@ -48,8 +48,8 @@ class ImageMaker:
         self.changed = threading.Condition(snapshots.lock)
         # the number of the layer of which an image is being made, and of those that calls wait for
         self.making, self.waited_for = None, []
-        # when something was asked last that an import or a container's start needs; for how long it
-        # rests after that, and may still rest over this image
+        # when the last call came of an import or a container's start; seconds of rest after that, and
+        # those that are left over this image
         self.asked, self.resting = time.monotonic(), 0 if snapshots.is_waiting else RESTING
         self.left = RESTING_MOST
 
@@ -86,7 +86,7 @@ class ImageMaker:
         return self.state.chain(self.state.by_id(number))
 
     def note_call(self):
-        """Notes that something is asked, while which the thread rests."""
+        """Notes a call of an import or a container's start."""
         self.asked = time.monotonic()
 
     def notice(self):
@@ -122,8 +122,8 @@ class ImageMaker:
             return snapshot
 
     def rest(self, _=0):
-        """Rests if something was asked a moment ago and no call waits for an image. It is called
-        before an image is begun, and for each piece of it."""
+        """Rests until the last call is a moment ago, unless a call waits for an image. Called before
+        an image is begun, and for each piece of it."""
         if time.monotonic() >= self.asked + self.resting:
             return
         with self.changed:
