@@ -16,7 +16,7 @@ FOLDER, MOUNT = "snapshots", "mounts"
 
 
 def with_layers(snapshotter, names, *words):
-    """The snapshots of a service that is stopped for that, with layers of which no image is made
+    """The snapshots of a service that is stopped for that, with layers whose images are not made
     yet, each on the one before."""
     snapshotter.stop()
     snapshots, parent = without_images(snapshotter, *words), ""
