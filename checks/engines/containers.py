@@ -64,7 +64,7 @@ def check_the_same_trees(machine):
         image, archive = image_of(machine, kind)
         found = {}
         for snapshotter in ("strata", "overlayfs"):
-            machine.bring(archive, snapshotter)
+            machine.bring_settled(archive, snapshotter)
             process = machine.begin("c-" + snapshotter, image, "sleep", "1000000",
                                     snapshotter=snapshotter)
             found[snapshotter] = seen(process)
@@ -87,7 +87,7 @@ def check_folders_are_told(machine):
     for kind, first, wanted in ((images.ODD, 1, "dev/far: a device of minor number 70000"),
                                 (images.LONG, 128, "layer 129, and strata stacks 128")):
         image, archive = image_of(machine, kind)
-        machine.bring(archive)
+        machine.bring_settled(archive)
         machine.run("c", image, "true")
         chains = chain_digests([made.digest(it) for it in images.layers(kind)])
         hold("of the image below", None, told_of(machine, chains[first - 1]))
@@ -119,7 +119,7 @@ def check_images_as_layers(machine):
                machine.at(images.PLAIN), folder + ":1")
     images.push(folder, HOST, "given:1")
     machine.ctr("images", "pull", "--plain-http", "--snapshotter", "strata", given)
-    machine.bring(archive, "overlayfs")
+    machine.bring_settled(archive, "overlayfs")
     found = []
     for name, which, snapshotter in (("g", given, "strata"), ("p", image, "overlayfs")):
         found.append(seen(machine.begin(name, which, "sleep", "1000000", snapshotter=snapshotter)))
@@ -159,7 +159,7 @@ def check_many_at_once(machine):
     """Eight and fifty containers at once on one mount: each sees the image and its own changes
     alone."""
     image, archive = image_of(machine, images.PLAIN)
-    machine.bring(archive)
+    machine.bring_settled(archive)
     first, said = written(machine, "first", image), {}
 
     def one(name):
@@ -182,7 +182,7 @@ def check_many_at_once(machine):
 def check_one_mount(machine):
     """Containers on one chain have one mount and one server; it ends with the last of them."""
     image, archive = image_of(machine, images.PLAIN)
-    machine.bring(archive)
+    machine.bring_settled(archive)
     for name in ("a", "b", "c"):
         machine.begin(name, image, "sleep", "1000000")
     hold("servers", 1, len(machine.snapshotter.servers()))
@@ -230,9 +230,27 @@ def hold_works(machine, name):
         hold("%s finds %s in %s" % (name, *words), (0, ""), (done.returncode, done.stderr[-400:]))
 
 
-def begin_writing(machine, name, image):
-    machine.begin(name, image, "sh", "-c", "echo own > /etc/own; sleep 1000000")
+def begin_writing(machine, name, image, snapshotter="strata"):
+    """Begins a container that writes a file; its process."""
+    process = machine.begin(name, image, "sh", "-c", "echo own > /etc/own; sleep 1000000",
+                            snapshotter=snapshotter)
     wait_until("the container runs", lambda: works(machine, name))
+    return process
+
+
+def lies_on(machine, process):
+    """What a container's root lies on, the highest first, as paths below the snapshotter's root."""
+    with open("/proc/%d/mountinfo" % process, encoding="utf-8") as lines:
+        root = next(line for line in lines if line.split()[4] == "/")
+    options = dict(it.partition("=")[::2] for it in root.split()[-1].split(","))
+    return [os.path.relpath(it, machine.snapshotter.root) for it in options["lowerdir"].split(":")]
+
+
+def hold_early(machine, process):
+    """Holds that a container lies on a folder; what it lies on."""
+    found = lies_on(machine, process)
+    hold("what an early container lies on", "snapshots", found[0].partition("/")[0])
+    return found
 
 
 def runs(machine, image):
@@ -245,7 +263,7 @@ def check_daemons_killed(machine):
     """The snapshotter and containerd are killed under a container, which goes on; new ones
     start."""
     image, archive = image_of(machine, images.PLAIN)
-    machine.bring(archive)
+    machine.bring_settled(archive)
     begin_writing(machine, "long", image)
     machine.snapshotter.stop(signal.SIGKILL)
     hold_works(machine, "long")
@@ -264,7 +282,7 @@ def check_servers_killed(machine):
     """strata is killed under a container: what that hasn't read yet is gone, and the next
     container has a new mount."""
     image, archive = image_of(machine, images.PLAIN)
-    machine.bring(archive)
+    machine.bring_settled(archive)
     begin_writing(machine, "old", image)
     os.kill(machine.snapshotter.servers()[0], signal.SIGKILL)
     wait_until("no server", lambda: not machine.snapshotter.servers())
@@ -280,7 +298,7 @@ def check_servers_killed(machine):
 def check_a_reboot(machine):
     """State without mounts: a container that was stopped starts again with what it had written."""
     image, archive = image_of(machine, images.PLAIN)
-    machine.bring(archive)
+    machine.bring_settled(archive)
     begin_writing(machine, "kept", image)
     machine.tried("task", "kill", "-s", "KILL", "kept")
     wait_until("its end", lambda: machine.tried("task", "rm", "kept").returncode == 0)
@@ -376,13 +394,16 @@ def hold_printed(wanted, found):
 
 def check_random_kills(machine, count=8):
     """The snapshotter, containerd and servers are killed at random moments of imports, pulls,
-    containers and removals: a container goes on meanwhile, none sees another tree, afterwards all
-    works, and nothing is left."""
-    (kept, other), (image, archive) = (image_of(machine, it) for it in (images.ODD, images.PLAIN))
+    containers and removals: containers on images and on folders go on meanwhile, none sees another
+    tree, afterwards all works, and nothing is left."""
+    (kept, other), (early, slow), (image, archive) = (
+        image_of(machine, it) for it in (images.ODD, images.SLOW, images.PLAIN))
     remote = HOST + "/killed:1"
     images.push(machine.at(images.PLAIN), HOST, "killed:1")
-    machine.bring(other)
+    machine.bring_settled(other)
     begin_writing(machine, "kept", kept)
+    machine.bring(slow)
+    hold_early(machine, begin_writing(machine, "early", early))
     wanted = []
     # what ctr prints may lack the end
     while wanted[-1:] != [SUM]:
@@ -396,16 +417,18 @@ def check_random_kills(machine, count=8):
         time.sleep(draw.random() * 1.5)
         draw.choice(KILLS)(machine, spared)
         work.join()
-        hold_works(machine, "kept")
+        for name in ("kept", "early"):
+            hold_works(machine, name)
         hold_printed(wanted, found)
     # containerd waits for a while before it connects again
     wait_until("an import", lambda: machine.tried("images", "import", "--snapshotter", "strata",
                                                   archive).returncode == 0)
     machine.run("last", image, "grep", "-q", "^below$", "/etc/issue")
-    machine.end("kept")
+    for name in ("kept", "early"):
+        machine.end(name)
     remove_containers(machine)
     cri.Runtime(machine.at("c.sock")).remove_image(remote)
-    machine.forget(image, kept)
+    machine.forget(image, kept, early)
     wait_until("no server", lambda: not machine.snapshotter.servers())
 
 

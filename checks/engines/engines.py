@@ -87,7 +87,7 @@ def main(words):
 
 
 def inside(machine, words):
-    from checks.engines import containers, measure, others, pods
+    from checks.engines import containers, imports, measure, others, pods
     begin_loopback()
     try:
         if "--measure" in words:
@@ -96,7 +96,7 @@ def inside(machine, words):
             measure.measure(machine, words[2] if len(words) > 2 else None)
             return True
         machine.start()
-        every = [*containers.CHECKS, *pods.CHECKS, *others.CHECKS]
+        every = [*containers.CHECKS, *imports.CHECKS, *pods.CHECKS, *others.CHECKS]
         if words[1:]:
             every = [it for it in (*every, *containers.LONG)
                      if it.__name__[len("check_"):] in words[1:]]

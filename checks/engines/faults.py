@@ -9,7 +9,7 @@ import subprocess
 import threading
 import time
 
-from checks.engines.layers import end, kind_of, put, without_images
+from checks.engines.layers import end, kind_of, lowers_of, put, without_images
 from checks.engines.snapshotters import Snapshotter
 from checks.shared.mounting import SECONDS, Failed, hold, places, wait_until
 from strata_snapshotter import sockets
@@ -21,14 +21,14 @@ def fill(folder):
 
 def hold_mount(snapshotter, key):
     """Holds that the mounts of a snapshot show the layer."""
-    mount, = snapshotter.call("Mounts", key=key).mounts
-    options = dict(it.partition("=")[::2] for it in mount.options)
-    hold("the layer", ["file"], os.listdir(options["lowerdir"]))
+    lower, = lowers_of(*snapshotter.call("Mounts", key=key).mounts)
+    hold("the layer", ["file"], os.listdir(lower))
 
 
 def check_killed_and_restarted(snapshotter):
     """The mounts of one that was killed are taken over; its servers go on."""
     snapshotter.layer("one", "", fill)
+    snapshotter.settled()
     snapshotter.call("Prepare", key="c", parent="one")
     before = places()
     snapshotter.stop(signal.SIGKILL)
@@ -45,6 +45,7 @@ def check_killed_and_restarted(snapshotter):
 def check_mounts_that_are_gone(snapshotter):
     """After a reboot there is state and no mount, or a server was killed: it is mounted anew."""
     snapshotter.layer("one", "", fill)
+    snapshotter.settled()
     snapshotter.call("Prepare", key="c", parent="one")
     place = snapshotter.root + "/mounts/1"
     # one at which nobody has looked, so that the kernel keeps nothing of it
@@ -143,7 +144,7 @@ def check_the_launcher_killed(snapshotter):
 def check_what_is_mounted_ahead(snapshotter):
     """A layer on which another one is about to lie is not mounted ahead."""
     snapshotter.layer("one", "", fill)
-    snapshotter.settled("one")
+    snapshotter.settled()
     snapshotter.stop()
     snapshots = without_images(snapshotter, 1000)
     one = snapshots.stat("one")
@@ -159,9 +160,8 @@ def check_what_is_mounted_ahead(snapshotter):
 
 def lies_on(snapshotter, key):
     """In which folder of the root a new snapshot's lower folder is."""
-    mount, = snapshotter.call("Prepare", key=key, parent="one").mounts
-    options = dict(it.partition("=")[::2] for it in mount.options)
-    return kind_of(snapshotter, options["lowerdir"])
+    lower, = lowers_of(*snapshotter.call("Prepare", key=key, parent="one").mounts)
+    return kind_of(snapshotter, lower)
 
 
 def check_replaced_folders(snapshotter):
@@ -169,7 +169,7 @@ def check_replaced_folders(snapshotter):
     on the mount. The folder goes with what lies on it, once it is kept no longer."""
     snapshotter.restart_keeping("1000")
     snapshotter.layer("one", "", fill)
-    snapshotter.settled("one")
+    snapshotter.settled()
     hold("unpacked", "snapshots", lies_on(snapshotter, "extract-2"))
     hold("a container", "mounts", lies_on(snapshotter, "c"))
     snapshotter.restart_keeping("0")
@@ -183,7 +183,7 @@ def check_replaced_folders(snapshotter):
 def check_what_a_killed_one_left(snapshotter):
     """Folders that no snapshot has, images that were begun, folders that were being removed."""
     snapshotter.layer("one", "", fill)
-    snapshotter.settled("one")
+    snapshotter.settled()
     snapshotter.stop(signal.SIGKILL)
     root = snapshotter.root
     for name in ("snapshots/77/fs/x", "trash/y/z", "mounts/78", "snapshots/1/fs/old"):
@@ -229,7 +229,7 @@ def check_refused_roots(snapshotter):
 
     hold_line("another one", "another snapshotter runs here")
     snapshotter.layer("one", "", fill)
-    snapshotter.settled("one")
+    snapshotter.settled()
     hold("status", 0, snapshotter.stop())
     os.chmod(snapshotter.root, 0o755)
     hold_line("others", "with the mode 700")
@@ -278,7 +278,7 @@ def check_many_at_once(snapshotter):
     """Fifty are prepared and removed at once on one layer: each has a folder of its own, and there
     is one mount."""
     snapshotter.layer("one", "", fill)
-    snapshotter.settled("one")
+    snapshotter.settled()
     found, files = {}, snapshotter.open_files()
 
     def one(key):
@@ -319,9 +319,10 @@ def check_a_full_disk(snapshotter):
     other = Snapshotter(snapshotter.program, small).start()
     try:
         other.layer("one", "", fill)
-        other.settled("one")
+        other.settled()
         # the image has no room beside the folder
         other.layer("two", "one", lambda folder: put(folder, "large", bytes(1400 << 10)))
+        other.settled()
         mount, = other.call("View", key="v", parent="two").mounts
         hold("a folder", "overlay", mount.type)
         with open(small + "/rest", "wb", 0) as out:

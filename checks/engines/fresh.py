@@ -48,6 +48,7 @@ for it in /sys/fs/cgroup/*/; do mount -o remount,rw,bind "$it" || true; done
 MORE = """
 set -e
 ctr snapshots --snapshotter strata ls
+sleep 1
 ctr run -d --snapshotter strata %(image)s long sh -c 'echo own > /etc/own; sleep 1000000'
 works() { ctr task exec --exec-id "$1" long sh -c 'grep below /etc/issue && grep own /etc/own'; }
 nothing() { if "$@" | grep .; then return 1; fi; }

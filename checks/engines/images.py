@@ -56,9 +56,10 @@ def lowest():
 
 # kinds of images: the odd one's second layer has a device that no image of romfs holds, and an
 # attribute; the linked one's third layer has hard links over those of the lowest (containerd itself
-# refuses links to files of lower layers alone); the long one has more layers than strata stacks
-PLAIN, ODD, LINKED, LONG = "plain", "odd", "linked", "long"
-LONG_LAYERS = 130
+# refuses links to files of lower layers alone); the long one has more layers than strata stacks; the
+# third layer of the slow one has so many files that its image takes longer than a container's start
+PLAIN, ODD, LINKED, LONG, SLOW = "plain", "odd", "linked", "long", "slow"
+LONG_LAYERS, SLOW_FILES = 130, 3000
 
 
 def layers(kind=PLAIN):
@@ -80,6 +81,9 @@ def layers(kind=PLAIN):
     if kind == LINKED:
         third += [entry("etc/third", b"anew\n"), hard("home/u/again", "etc/third"),
                   entry("usr/sudo", b"two names\n", mode=0o4711), hard("etc/passwd", "usr/sudo")]
+    if kind == SLOW:
+        third += [folder("opt/many"), *(entry("opt/many/%d" % number, b"%d" % number)
+                                        for number in range(SLOW_FILES))]
     more = LONG_LAYERS - 3 if kind == LONG else 0
     rest = [[entry("opt/o/%d" % number, b"%d" % number)] for number in range(more)]
     return [made.archive(*it) for it in (lowest(), second, third, *rest)]

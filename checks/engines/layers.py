@@ -149,19 +149,24 @@ def kind_of(snapshotter, path):
     return os.path.relpath(path, snapshotter.root).split("/")[0]
 
 
+def lowers_of(mount):
+    """The folders that a mount lies on, the highest first."""
+    options = dict(it.partition("=")[::2] for it in mount.options)
+    return options["lowerdir"].split(":") if mount.type == "overlay" else [mount.source]
+
+
 def stays_a_folder(snapshotter, fill):
     """Holds that a layer, and one above it, stay folders; the mount of what is written over them
     shows them over the image below."""
     snapshotter.layer("base", "", lowest)
     snapshotter.layer("middle", "base", fill)
     snapshotter.layer("top", "middle", lambda folder: put(folder, "top", b"t"))
-    mount, = snapshotter.call("Prepare", key="c", parent="top").mounts
-    lower = dict(it.partition("=")[::2] for it in mount.options)["lowerdir"].split(":")
+    snapshotter.settled()
+    lower = lowers_of(*snapshotter.call("Prepare", key="c", parent="top").mounts)
     hold("folders", ["snapshots", "snapshots", "mounts"],
          [kind_of(snapshotter, it) for it in lower])
     hold("below", (True, True),
          (os.path.exists(lower[0] + "/top"), os.path.exists(lower[2] + "/etc/passwd")))
-    snapshotter.settled("top")
     hold("usage", 2, snapshotter.call("Usage", key="top").inodes)
     hold("told of the top one", "middle below it is a folder", told_of(snapshotter, "top"))
     hold("folders that are told", ["middle", "top"], snapshotter.names('labels."%s"' % FOLDER))
@@ -222,8 +227,7 @@ def check_many_layers(snapshotter):
         snapshotter.layer("l%d" % number, "l%d" % (number - 1) if number else "",
                           lambda folder, name="f%d" % number: put(folder, name, b"x"))
     hold("128", 128, len(os.listdir(snapshotter.view("v", "l127"))))
-    mount, = snapshotter.call("View", key="w", parent="l128").mounts
-    lower = dict(it.partition("=")[::2] for it in mount.options)["lowerdir"].split(":")
+    lower = lowers_of(*snapshotter.call("View", key="w", parent="l128").mounts)
     hold("files below", [1, 128], [len(os.listdir(it)) for it in lower])
     why = "layer 129, and strata stacks 128"
     hold("told", (None, why), (told_of(snapshotter, "l127"), told_of(snapshotter, "l128")))
@@ -254,10 +258,10 @@ def check_what_is_waited_for(snapshotter):
     snapshotter.start()
 
 
-def without_images(snapshotter, keep=0):
+def without_images(snapshotter, keep=0, is_waiting=False):
     """The snapshots of a service that was stopped, in this process; no images are made."""
     ImageMaker.start = lambda self: None
-    return Snapshots(Places(snapshotter.root), snapshotter.program, None, keep)
+    return Snapshots(Places(snapshotter.root), snapshotter.program, None, keep, is_waiting)
 
 
 def end(snapshots):

@@ -137,7 +137,13 @@ class Machine:
         return done.stdout
 
     def bring(self, archive, snapshotter="strata"):
+        """Imports an image; its layers may become images behind that."""
         self.ctr("images", "import", "--snapshotter", snapshotter, archive)
+
+    def bring_settled(self, archive, snapshotter="strata"):
+        """The same, and waits until it is settled which layers are images."""
+        self.bring(archive, snapshotter)
+        self.snapshotter.settled()
 
     def run(self, name, image, *words, snapshotter="strata"):
         """What a container prints, which is removed."""

@@ -194,6 +194,7 @@ def add_containers(figures, machine, compared):
     """Containers on an image, those of each snapshotter by turns."""
     for its in compared:
         its.bring()
+        machine.snapshotter.settled()
         its.run("first")
         machine.begin("stay-" + its.name, its.image, "sleep", "1000000", snapshotter=its.name)
     for number in range(STARTS):

@@ -7,7 +7,7 @@ import os
 import sys
 import tempfile
 
-from checks.engines import calls, faults, layers
+from checks.engines import calls, early, faults, layers
 from checks.engines.snapshotters import Snapshotter, python_with_grpc
 from checks.shared.mounting import apart, children, hold, try_mount, wait_until
 
@@ -43,7 +43,7 @@ def main(words):
     if why != "yes":
         print("snapshots: left out: %s" % why)
         return True
-    every, failed = (*calls.CHECKS, *layers.CHECKS, *faults.CHECKS), 0
+    every, failed = (*calls.CHECKS, *layers.CHECKS, *early.CHECKS, *faults.CHECKS), 0
     for check in every:
         with tempfile.TemporaryDirectory(prefix="snapshots-") as folder:
             said = apart(lambda: inside(check, program, folder))

@@ -1,7 +1,9 @@
 """A snapshotter that runs for a check, and a client of it over gRPC."""
+import contextlib
 import os
 import signal
 import socket
+import sqlite3
 import subprocess
 import sys
 
@@ -118,11 +120,16 @@ class Snapshotter:
         hold("%s %s" % (name, words), status,
              found.partition(":")[0] if isinstance(found, str) else found)
 
-    def settled(self, *names):
-        """Waits until it is settled for committed snapshots whether they are images."""
-        for name in names:
-            self.call("View", key="settled " + name, parent=name)
-            self.call("Remove", key="settled " + name)
+    def settled(self):
+        """Waits until it is settled for all committed snapshots whether they are images."""
+        wait_until("images are made", lambda: not self.pending())
+
+    def pending(self):
+        """The committed snapshots of which images are still to be made."""
+        base = sqlite3.connect("file:%s/state.db?mode=ro" % self.root, uri=True)
+        with contextlib.closing(base):
+            found = base.execute("SELECT name FROM snapshots WHERE form = 'pending' AND kind = 3")
+            return sorted(name for name, in found)
 
     # --- what there is ---
 
@@ -143,7 +150,8 @@ class Snapshotter:
         self.call("Commit", name=name, key=key)
 
     def view(self, name, parent):
-        """The folder that a view of a snapshot shows, which is one mount."""
+        """The folder that a view of a snapshot shows, which is one mount, once images are made."""
+        self.settled()
         mount, = self.call("View", key=name, parent=parent).mounts
         hold("the view's mount", ("bind", ["ro", "rbind"]), (mount.type, list(mount.options)))
         return mount.source

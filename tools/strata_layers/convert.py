@@ -10,7 +10,7 @@ from strata_layers.layout_images import PACKED_ROMFS, PARENT, PART, ROMFS, all_i
 from strata_layers.layout_writer import LayoutWriter, check_tag, split_new_name
 from strata_layers.layouts import INDEXES, MANIFESTS, digest_of
 from strata_layers.packing import hold_packing, packed_pieces
-from strata_layers.store import pieces_of
+from strata_layers.store import heard_pieces
 from strata_layers.store_images import VERITY
 from strata_layers.store_layers import Maker
 
@@ -36,13 +36,6 @@ def checked_pieces(layer, number, where, heard):
     if found.hexdigest() != layer.digits:
         raise Refused("%s: the layer sha256:%s has the digest sha256:%s"
                       % (where, layer.digits, found.hexdigest()))
-
-
-def heard_pieces(number, heard):
-    """The bytes of an open layer, in pieces."""
-    for data in pieces_of(number):
-        heard(len(data))
-        yield data
 
 
 class Converter:

@@ -81,6 +81,13 @@ def pieces_of(number):
     yield from zeros(size - at)
 
 
+def heard_pieces(number, heard):
+    """The same; `heard` gets the size of each piece."""
+    for data in pieces_of(number):
+        heard(len(data))
+        yield data
+
+
 def zeros(size):
     for _ in range(size // PIECE):
         yield ZEROS

@@ -1,8 +1,8 @@
 """Mounts layers ahead of the first container that lies on them.
 
-A layer that nothing comes over is mounted, with all below it, once it is an image. A client that
-says which layer is the highest waits for that, and its pull ends with the mount; else it is done a
-moment later. A mount that nothing lies on is kept as long as any other.
+A layer that no other one comes over is mounted, with all below it, once it is an image. A client
+that says which layer is the highest waits for that, and its pull ends with the mount; else it is
+done a moment later. A mount that nothing lies on is kept as long as any other.
 """
 import contextlib
 import threading
@@ -10,7 +10,7 @@ import threading
 from strata_snapshotter.background import begin_after, told_as_warning
 from strata_snapshotter.state import Lower
 
-# so many seconds after a layer was made an image it is mounted, if none comes over it
+# so many seconds after a layer was made an image it is mounted, if no other one comes over it
 AHEAD = 0.02
 
 
@@ -19,13 +19,13 @@ class Ahead:
 
     def __init__(self, snapshots):
         self.snapshots = snapshots
-        # held while a layer is mounted in the background, one at a time; the numbers of layers that
-        # others are about to lie on
+        # held while a layer is mounted in the background, one at a time; the numbers of layers over
+        # which others are about to be unpacked
         self.lock, self.coming = threading.Lock(), []
 
     @contextlib.contextmanager
     def coming_over(self, snapshot):
-        """Notes that something is about to lie on a snapshot (or None)."""
+        """Notes that a layer is about to be unpacked over a snapshot (or None)."""
         number = None if snapshot is None else snapshot.id
         with self.snapshots.lock:
             self.coming.append(number)
@@ -64,8 +64,8 @@ class Ahead:
                 snapshots.tidy()
 
     def is_top(self, number):
-        """Whether a layer is there, and nothing lies on it or is about to."""
+        """Whether a layer is there, and no other one lies on it or is about to."""
         with self.snapshots.lock:
             snapshot = self.snapshots.state.by_id(number)
             return (snapshot is not None and number not in self.coming
-                    and not self.snapshots.state.has_children(snapshot))
+                    and not self.snapshots.has_layers(snapshot))

@@ -61,6 +61,9 @@ def parser():
     found.add_argument("--keep", metavar="SECONDS", type=seconds, default=KEEP,
                        help="how long a mount stays that nothing uses (%(default)s); 0 also mounts "
                             "no image ahead of its first container")
+    found.add_argument("--wait-for-images", action="store_true",
+                       help="let each container wait until its layers are images, instead of "
+                            "starting on their folders")
     found.add_argument("--strata", metavar="PROGRAM", dest="program", default=None,
                        help="start PROGRAM instead of the installed strata")
     found.add_argument("--debug", action="store_true", help="log each call with its time")
@@ -106,7 +109,7 @@ def served(words, path):
     sockets.clear(path)
     program = os.path.abspath(words.program or version.program())
     ready = ReadyLayers(held, StoreLayers(words.store), Content(words.content), program)
-    snapshots = Snapshots(held, program, ready, words.keep)
+    snapshots = Snapshots(held, program, ready, words.keep, words.wait_for_images)
     server = service.server_of(snapshots)
     try:
         server.add_insecure_port("unix:" + os.path.abspath(path))

@@ -1,5 +1,6 @@
 """Makes images of committed layers, one after another, in a thread of its own. Those that a call
-waits for come first.
+waits for come first; over others it rests for a moment after each call, so that they take no
+processor from a container that starts.
 
 A layer becomes an image if all below it are images. One that an image doesn't hold, or that is
 above the most layers that strata stacks, stays a folder, and so does all above it; each is logged
@@ -25,6 +26,8 @@ from strata_snapshotter.state import Form
 LAYERS_MOST = 128
 # seconds until it is looked whether who waits is still there, and until a fault is tried again
 LOOKING, AGAIN = 1, 5
+# seconds of rest after a call, and the most of them over one image
+RESTING, RESTING_MOST = 0.3, 10
 
 
 def below_reason(lower):
@@ -45,6 +48,10 @@ class ImageMaker:
         self.changed = threading.Condition(snapshots.lock)
         # the number of the layer of which an image is being made, and of those that calls wait for
         self.making, self.waited_for = None, []
+        # when the last call came of an import or a container's start; seconds of rest after that, and
+        # those that are left over this image
+        self.asked, self.resting = time.monotonic(), 0 if snapshots.is_waiting else RESTING
+        self.left = RESTING_MOST
 
     def start(self):
         threading.Thread(target=self.run, daemon=True).start()
@@ -66,6 +73,7 @@ class ImageMaker:
         """Waits until it is settled for a layer and all below it whether they are images."""
         with self.changed:
             self.waited_for.append(number)
+            self.changed.notify_all()
             try:
                 while any(it.form == Form.PENDING for it in self.chain_of(number)):
                     self.changed.wait(LOOKING)
@@ -76,6 +84,10 @@ class ImageMaker:
 
     def chain_of(self, number):
         return self.state.chain(self.state.by_id(number))
+
+    def note_call(self):
+        """Notes a call of an import or a container's start."""
+        self.asked = time.monotonic()
 
     def notice(self):
         """Lets the thread know of a new layer."""
@@ -98,12 +110,30 @@ class ImageMaker:
     def next(self):
         """Waits for a layer of which an image is to be made."""
         with self.changed:
-            snapshot = self.first()
+            snapshot = None
             while snapshot is None:
-                self.changed.wait()
+                while self.first() is None:
+                    self.changed.wait()
+                self.left = RESTING_MOST
+                self.rest()
+                # it may have been removed meanwhile
                 snapshot = self.first()
             self.making = snapshot.id
             return snapshot
+
+    def rest(self, _=0):
+        """Rests until the last call is a moment ago, unless a call waits for an image. Called before
+        an image is begun, and for each piece of it."""
+        if time.monotonic() >= self.asked + self.resting:
+            return
+        with self.changed:
+            while not self.waited_for:
+                now = time.monotonic()
+                seconds = min(self.asked + self.resting - now, self.left)
+                if seconds <= 0:
+                    break
+                self.changed.wait(seconds)
+                self.left -= time.monotonic() - now
 
     def first(self):
         """The layer of which an image is to be made first, or None. The lock must be held."""
@@ -118,7 +148,7 @@ class ImageMaker:
         try:
             with self.places.new_image() as (file, path):
                 self.write(snapshot, file)
-                digest = self.places.seal(path)
+                digest = self.places.seal(path, self.rest)
                 self.settle(snapshot, lambda: self.replace(snapshot, path, digest))
         except (Refused, OSError, MemoryError) as fault:
             # what was begun is gone by now, and leaves its room on a full disk
@@ -132,7 +162,7 @@ class ImageMaker:
         for it in chain[1:]:
             if it.form != Form.IMAGE:
                 raise Refused(below_reason(it))
-        write_folder_image(self.places.files(snapshot.id), file)
+        write_folder_image(self.places.files(snapshot.id), file, self.rest)
         os.fsync(file.fileno())
 
     def settle(self, snapshot, change):

@@ -21,7 +21,7 @@ import stat
 from strata_format.files import copy_front, write_all
 from strata_format.progress import unheard
 from strata_format.refused import Refused, shown
-from strata_layers.store import pieces_of
+from strata_layers.store import heard_pieces
 from strata_layers.verity import TREE, seal_of
 
 FOLDERS = ("snapshots", "mounts", "new", "trash")
@@ -109,10 +109,11 @@ class Places:
                 with contextlib.suppress(FileNotFoundError):
                     os.unlink(name)
 
-    def seal(self, path):
-        """Writes the fs-verity tree of a new image that is whole; its digest."""
+    def seal(self, path, heard=unheard):
+        """Writes the fs-verity tree of a new image that is whole; its digest. `heard` is called for
+        each piece."""
         with open(path, "rb", 0) as image, open(path + TREE, "xb", 0) as tree:
-            found = seal_of(pieces_of(image.fileno()))
+            found = seal_of(heard_pieces(image.fileno(), heard))
             for level in found.levels:
                 write_all(tree, level)
             os.fsync(tree.fileno())

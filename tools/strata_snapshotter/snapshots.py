@@ -1,10 +1,10 @@
 """The snapshots: what containerd asks of a snapshotter, over folders, images and mounts.
 
 A layer is committed as the folder into which containerd unpacked it, at once; its image is made
-behind that, and then takes the folder's place (image_maker.py). What is to lie on a chain of
-layers for long waits for that, and lies on one mount of strata; overlayfs puts what is written
-over it. Only unpacking goes on over folders meanwhile, and over those that images have just
-replaced: so it needs no mount of its own for each layer.
+behind that, and then takes the folder's place (image_maker.py). A container lies on one mount of
+strata for its chain of layers; overlayfs puts what is written over it. Before the last image of
+the chain is made it lies on folders, and also on those that images have just replaced, as
+unpacking does: so it waits neither for an image nor for a mount. An option lets it wait.
 
 What an overlay lies on is noted with it and stays the same; folders and mounts that nothing
 lies on are removed.
@@ -62,8 +62,10 @@ def field_of(snapshot, path):
 class Snapshots:
     """All snapshots of a root; every call may come from any thread."""
 
-    def __init__(self, held, program, ready, keep):
+    def __init__(self, held, program, ready, keep, is_waiting=False):
         self.places, self.ready, self.state = held, ready, State(held.at("state.db"))
+        # whether containers wait until all that they lie on are images
+        self.is_waiting = is_waiting
         self.mounts_of = ChainMounts(held, program, keep)
         self.ahead = Ahead(self)
         # whether it will be tidied once more, since a mount is kept until then
@@ -119,25 +121,33 @@ class Snapshots:
         ready. `is_wanted` says whether anybody still waits for it."""
         with self.lock:
             parent = self.parent_of(name, parent_name)
-        with self.ahead.coming_over(parent):
+        is_unpacked = is_unpacked_to(name)
+        self.maker.note_call()
+        with self.ahead.coming_over(parent if is_unpacked else None):
             if kind == Kind.ACTIVE and REFERENCE in labels:
                 self.take_ready(name, parent, labels)
-            if parent is not None and not is_unpacked_to(name):
+            if self.is_waiting and parent is not None and not is_unpacked:
                 self.maker.wait(parent.id, is_wanted)
-            return self.created(name, parent_name, kind, labels)
+            with self.lock:
+                is_early = is_unpacked or self.is_pending(parent)
+            return self.created(name, parent_name, kind, labels, is_early)
 
-    def created(self, name, parent_name, kind, labels):
+    def is_pending(self, parent):
+        """Whether images are still to be made of a parent (or None) or of what it lies on. The lock
+        must be held."""
+        return any(it.form == Form.PENDING for it in self.state.chain(parent))
+
+    def created(self, name, parent_name, kind, labels, is_early):
         """Makes a snapshot, over what its parent's files are in by now; its mounts."""
-        is_unpacked = is_unpacked_to(name)
         while True:
             with self.lock:
-                lowers = self.lowers_on(self.parent_of(name, parent_name), is_unpacked)
+                lowers = self.lowers_on(self.parent_of(name, parent_name), is_early)
             with self.mounts_of.holding([it.layer for it in lowers if it.is_mount]):
                 folders = [self.folder_of(it) for it in lowers]
                 with self.lock:
                     # an image may have taken a folder's place meanwhile
                     parent = self.parent_of(name, parent_name)
-                    if self.lowers_on(parent, is_unpacked) == lowers:
+                    if self.lowers_on(parent, is_early) == lowers:
                         snapshot = self.insert(name, parent, kind, labels, lowers, folders)
                         return self.mounts_over(snapshot, folders)
 
@@ -154,12 +164,12 @@ class Snapshots:
             raise InvalidArgument("parent %s is not committed" % parent_name)
         return parent
 
-    def lowers_on(self, parent, is_unpacked):
+    def lowers_on(self, parent, is_early):
         """What a snapshot over a parent (or None) lies on: folders, and the mount of all images
-        below them. What is unpacked lies on folders as far as these are there."""
+        below them. One that comes before the images lies on folders as far as these are there."""
         chain = self.state.chain(parent)
         folders = list(itertools.takewhile(
-            lambda it: it.form != Form.IMAGE or is_unpacked and it.id in self.replaced, chain))
+            lambda it: it.form != Form.IMAGE or is_early and it.id in self.replaced, chain))
         images = chain[len(folders):]
         return [Lower(it.id, False) for it in folders] + [Lower(it.id, True) for it in images[:1]]
 
@@ -234,6 +244,7 @@ class Snapshots:
 
     def mounts(self, name):
         """The mounts of a snapshot that is not committed."""
+        self.maker.note_call()
         with self.lock:
             snapshot = self.found(name)
             if snapshot.kind == Kind.COMMITTED:
@@ -257,6 +268,7 @@ class Snapshots:
 
     def commit(self, name, key, labels):
         """Makes a committed snapshot of an active one, under a new name."""
+        self.maker.note_call()
         with self.lock:
             snapshot = self.committable(name, key)
             given = given_image(self.places.files(snapshot.id))
@@ -315,7 +327,7 @@ class Snapshots:
         """Removes a snapshot on which nothing stands."""
         with self.lock:
             snapshot = self.found(name)
-            if self.state.has_children(snapshot):
+            if self.state.children(snapshot):
                 raise FailedPrecondition("snapshot %s: has children" % name)
             with self.state.transaction():
                 self.state.delete(snapshot)
@@ -324,6 +336,11 @@ class Snapshots:
                 aside = self.places.set_aside(self.places.snapshot(snapshot.id))
         places.remove(aside)
         self.tidy()
+
+    def has_layers(self, snapshot):
+        """Whether layers lie on a snapshot, or are unpacked over it. The lock must be held."""
+        return any(it.kind == Kind.COMMITTED or is_unpacked_to(it.name)
+                   for it in self.state.children(snapshot))
 
     # --- what nothing lies on ---
 

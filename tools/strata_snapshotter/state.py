@@ -146,9 +146,10 @@ class State:
             snapshot = None if snapshot.parent is None else self.by_id(snapshot.parent)
         return found
 
-    def has_children(self, snapshot):
-        found = self.base.execute("SELECT 1 FROM snapshots WHERE parent = ?", (snapshot.id,))
-        return found.fetchone() is not None
+    def children(self, snapshot):
+        """The snapshots that lie on one."""
+        found = self.base.execute(FOUND + "WHERE s.parent = ?", (snapshot.id,))
+        return [snapshot_of(row) for row in found]
 
     def ready(self, parent, key, value):
         """The layer over a parent that was committed without being unpacked and has a label, or
