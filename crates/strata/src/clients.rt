@@ -69,8 +69,8 @@ pub struct Service<'s, R, A: Allocator, D> {
 
 impl<R: Threads + Sync, A: SharedAllocator, D: Contents + Sync> Service<'_, R, A, D> {
     /// Serves `count` sessions as [`sessions`] does, to any clients, each stream as
-    /// [`serve_core::Serving::run`] serves it; no lookups are counted. A session has one client, and no
-    /// others are accepted.
+    /// [`serve_core::Serving::run`] serves it; no lookups are counted. A session has one client,
+    /// and no others are accepted.
     pub fn sessions_from<C: Clients, E: Write>(
         &self,
         clients: &mut C,
