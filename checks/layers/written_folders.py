@@ -90,6 +90,8 @@ def test_wrong_words(room):
             ("a verb or LAYOUT[:TAG] FOLDER is missing",),
             ("FOLDER for the images of %s is missing" % place, place),
             ("b: unexpected after LAYOUT[:TAG] FOLDER", place, "a", "b"),
+            ("--fail-on-lost: options stand before LAYOUT[:TAG]", place, "a", "--fail-on-lost"),
+            ("--no-xattrs: options stand before LAYOUT[:TAG]", place, "--no-xattrs", "a"),
             ("a verb or LAYOUT[:TAG] FOLDER is missing", "--fail-on-lost"),
             ("--store: an option before the verb", "--store", "X", "images"),
             ("pul: " + verbs, "pul", "oci:x"),

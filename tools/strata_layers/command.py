@@ -62,6 +62,9 @@ def wrong_words(words):
     # a path, or a name with a tag, is a layout's that isn't there
     if not {":", "/"} & {*words[0]} and not is_there:
         return "%s: neither a directory nor a verb; the verbs are %s" % (first, ", ".join(VERBS))
+    for option in OPTIONS:
+        if option in words[1:]:
+            return "%s: options stand before LAYOUT[:TAG]" % option
     if len(words) == 1:
         return "FOLDER for the images of %s is missing" % first
     return "%s: unexpected after LAYOUT[:TAG] FOLDER" % shown(os.fsencode(words[2])) if len(words) > 2 else None
