@@ -166,7 +166,8 @@ def note(crate, outcome, only):
 
 
 def edits_of(crate, with_gate, only):
-    """The edits of a crate as they are written, by their names: those of these names alone, where there are any."""
+    """The edits of a crate as they are written, by their names: those of these names alone, where there are any. Those
+    of crates below are left to wrong_bodies."""
     paths = glob.glob("%s/trials/%s.edits" % (ROOT, crate))
     if with_gate:
         paths += glob.glob("%s/trials/gate/%s.edits" % (ROOT, crate))
@@ -175,7 +176,7 @@ def edits_of(crate, with_gate, only):
         edits = {name: text for path in paths for name, text in written_in(path).items()}
     except Misfit as why:
         sys.exit(str(why))
-    return {name: text for name, text in edits.items() if name in only or not only}
+    return {name: text for name, text in edits.items() if (name in only or not only) and "\nfile: ../" not in "\n" + text}
 
 
 def tried(crate, others, edits, with_gate, is_whole, jobs):

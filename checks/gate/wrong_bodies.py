@@ -8,8 +8,9 @@ Each crate is laid into a scratch folder, with the edits of different functions 
 --only` of these functions tries them, over what `rt ci` or `make build` has proved of the crates below. An edit counts
 as refused where a goal of its own function is not proved, or its own written answers are refused at more than a name.
 What no batch shows refused is tried alone. An edit of anything else than a body, as a constant, has a line `by: NAME`
-of the function that is then wrong. --others tries those of trials/CRATE.edits instead, which `make trials` tries over
-what `make kept` kept; --only tries those of these names alone.
+of the function that is then wrong. Its file may be of a crate below (`file: ../CRATE/specs/..`), if a law here judges
+that: the crates from there on are proved anew first. --others tries those of trials/CRATE.edits instead, which `make
+trials` tries over what `make kept` kept, but for those of crates below; --only tries those of these names alone.
 
 A line tells of each edit at what it was refused. The status is 0 where all were.
 """
@@ -62,6 +63,12 @@ def name_of(file, text, body):
     return "::".join([*place_of(file), body.name])
 
 
+def said_by(words, folder):
+    """What a command prints that is run in a folder."""
+    return subprocess.run(words, cwd=folder, stdin=subprocess.DEVNULL, stdout=subprocess.PIPE, stderr=subprocess.STDOUT,
+                          text=True, errors="replace", check=False).stdout
+
+
 class Tried:
     """Edits of one crate that are tried together."""
 
@@ -76,18 +83,28 @@ class Tried:
             names.update(name_of(file, edit.texts[file], bodies_of(edit.texts[file])[place]) for file, place in edit.changes)
         return sorted(names)
 
+    def anew(self, texts):
+        """The crates below that these texts change or that use one of those, lowest first."""
+        changed, below = {file.split("/")[1] for file in texts if file.startswith("../")}, crates_below()
+        return [name for name in crates_used() if name in below[self.crate] and changed.intersection([name, *below[name]])]
+
     def check(self, texts):
         """What the prover says of these functions in a crate of these texts."""
         with tempfile.TemporaryDirectory(prefix="wrong-") as folder:
-            at = "%s/%s" % (folder, self.crate)
-            shutil.copytree("%s/crates/%s" % (ROOT, self.crate), at, ignore=shutil.ignore_patterns("out", "must-fail"))
+            anew, room = self.anew(texts), folder + "/proved"
+            for name in [*anew, self.crate]:
+                shutil.copytree("%s/crates/%s" % (ROOT, name), "%s/%s" % (folder, name),
+                                ignore=shutil.ignore_patterns("out", "must-fail"))
             for file, text in texts.items():
-                with open("%s/%s" % (at, file), "w", encoding="utf-8") as out:
+                with open("%s/%s/%s" % (folder, self.crate, file), "w", encoding="utf-8") as out:
                     out.write(text)
-            words = Kit().check(self.crate, at, crates_used()[self.crate], self.room, self.names())
-            done = subprocess.run(words, cwd=at, stdin=subprocess.DEVNULL, stdout=subprocess.PIPE,
-                                  stderr=subprocess.STDOUT, text=True, errors="replace", check=False)
-        return done.stdout
+            shutil.copytree(self.room, room, symlinks=True, ignore=shutil.ignore_patterns(*(name + ".rlib" for name in anew)))
+            for name in anew:
+                printed = said_by(Kit().build(name, "%s/%s" % (folder, name), crates_used()[name], room, 1), "%s/%s" % (folder, name))
+                if not os.path.exists("%s/%s.rlib" % (room, name)):
+                    return printed
+            at = "%s/%s" % (folder, self.crate)
+            return said_by(Kit().check(self.crate, at, crates_used()[self.crate], room, self.names()), at)
 
     def outcomes(self):
         """At what each edit was refused, by its name; where it was not, None and what the prover said."""

@@ -55,7 +55,7 @@ size_at : (a : Algorithm) (size : ℕ) (r : List ℕ) → drop 8 (descriptor a s
 unfolding descriptor rest_of
 size_at a size r = refl
 
-one_size : (a : Algorithm) (m n : ℕ) (r s : List ℕ) → m < 2 ^ 64 → n < 2 ^ 64 → descriptor a m r ≡ descriptor a n s → m ≡ n
+pub one_size : (a : Algorithm) (m n : ℕ) (r s : List ℕ) → m < 2 ^ 64 → n < 2 ^ 64 → descriptor a m r ≡ descriptor a n s → m ≡ n
 one_size a m n r s small_m small_n same =
     let e : to_le_bytes w64 m ++ rest_of r ≡ to_le_bytes w64 n ++ rest_of s =
     sym (size_at a m r) ∙ ap (λ l. drop 8 l) same ∙ size_at a n s in
@@ -69,7 +69,7 @@ root_at a size r long =
     ap (λ l. take (digest_size a) l) (append_assoc r (replicate (64 - length r) 0) (replicate 32 0 ++ replicate 144 0))
     ∙ take_at r (replicate (64 - length r) 0 ++ (replicate 32 0 ++ replicate 144 0)) (digest_size a) long
 
-one_top : (a : Algorithm) (m n : ℕ) (r s : List ℕ) → length r ≡ digest_size a → length s ≡ digest_size a
+pub one_top : (a : Algorithm) (m n : ℕ) (r s : List ℕ) → length r ≡ digest_size a → length s ≡ digest_size a
     → descriptor a m r ≡ descriptor a n s → r ≡ s
 one_top a m n r s long_r long_s same =
     sym (root_at a m r long_r) ∙ ap (λ l. take (digest_size a) (drop 16 l)) same ∙ root_at a n s long_s

@@ -28,6 +28,10 @@ zeros_behind xs m k =
       | inr past ↦ get_or-append_right xs (replicate m 0) (length xs) k 0 refl past ∙ zero_at m (k - length xs) ∙ sym (past_end xs k past)
     ]
 
+pub index-in_blocks : (xs : List ℕ) (k : ℕ) → slice_index (in_blocks xs) k ≡ slice_index xs k
+unfolding in_blocks
+index-in_blocks xs k = zeros_behind xs (4096 * blocks_of (length xs) - length xs) k
+
 -- ---- one block
 
 pub length-filled : (c : List ℕ) → length c ≤ 4096 → length (filled c) ≡ 4096

@@ -9,3 +9,5 @@ pub mod Leaves
 pub mod Parts
 pub mod Tops
 pub mod Whole
+pub mod KeptBytes
+pub mod InFull

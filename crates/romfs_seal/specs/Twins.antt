@@ -1,9 +1,11 @@
 -- Second preimages: they exist if other bytes pass for a file's.
-use Rattle.std.specs.Prelude.{◌≡◌, ◌≢◌, ◌⊎◌, ℕ, zero, suc, ◌/◌, ◌<◌, List, length}
+use Rattle.std.specs.Prelude.{◌≡◌, ◌≢◌, ◌⊎◌, ℕ, zero, suc, ◌+◌, ◌/◌, ◌<◌, List, length, slice_index}
 use Rattle.devices.specs.declared.algorithm.Algorithm.{Algorithm}
 use Rattle.devices.specs.Tree.{Hash, fan, block, blocks_above, above}
 use Rattle.devices.specs.File.{descriptor, in_blocks, blocks_of, root_of}
-use Rattle.devices.specs.Vouched.{Vouches}
+use Rattle.devices.specs.Vouched.{Vouches, VouchesAt}
+use Rattle.devices.specs.Seal.{Seal}
+use Rattle.devices.specs.Read.{AreRead}
 
 -- two lists differ, and have the same digest
 pub record AreTwins (h : Hash) (b c : List ℕ) : Type 0 where
@@ -34,3 +36,21 @@ pub record AreForged (a : Algorithm) (h : Hash) (xs ys : List ℕ) (k levels : �
       AreTwins h (descriptor a (length xs) (root_of a h k xs))
       (descriptor a (length ys) (root_of a h levels ys))
       ⊎ HaveTwins a h k (in_blocks xs) (in_blocks ys) (blocks_of (length xs))
+
+-- the byte at a place was vouched for, but the descriptor that was met and that of a file of these
+-- bytes are twins, or one of the blocks that were met has a twin in the tree of that file
+pub record IsForgedAt (s : Seal) (ys : List ℕ) (levels place byte : ℕ)
+    (v : VouchesAt s.algorithm s.hash s.size s.digest place byte) : Type 0 where
+  pub twins :
+      AreTwins s.hash (descriptor s.algorithm (length ys) (root_of s.algorithm s.hash levels ys))
+      (descriptor s.algorithm s.size v.top)
+      ⊎ IsForged s.algorithm s.hash v.levels (in_blocks ys) (blocks_of (length ys)) v.top
+      (place / 4096) v.of v.vouched
+
+-- one of the bytes that were read from a place on is forged
+pub record AreForgedIn (s : Seal) (ys : List ℕ) (levels place : ℕ) (bytes : List ℕ)
+    (read : AreRead s place bytes) : Type 0 where
+  pub at : ℕ
+  pub within : at < length bytes
+  pub forged : IsForgedAt s ys levels (place + at) (slice_index bytes at)
+      ((read.each at within).vouched)

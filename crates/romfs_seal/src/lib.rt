@@ -17,7 +17,8 @@
 //!
 //! What is read is right, unless a read gives, instead of a block of the file or of its tree,
 //! another block with that block's digest (`Read` of `devices`). Nothing is assumed about the hash
-//! alone. [`laws`] says that this premise holds for bytes in memory.
+//! alone. [`laws`] says that this premise holds for bytes in memory, and what a digest says about a
+//! file that was read in full, without it.
 #![tactic(auto)]
 
 mod descriptor;

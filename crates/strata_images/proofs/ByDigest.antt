@@ -1,10 +1,14 @@
 -- Images under digests: those that sources show have the digests by which these are read, over which a line serves (`shown_have_digests`)
--- and of which it reports (`reported_have_digests`); and an image that is read in full is the shown one (`read_is_shown`).
-use Rattle.std.proofs.Common.{◌≡◌, ◌∙◌, subst, ℕ, List, [], ◌∷◌, Option, Some, None, length, arith}
+-- and of which it reports (`reported_have_digests`); and an image that is read in full is the shown one (`read_is_shown`), or any with the
+-- digest (`read_has`).
+use Rattle.std.proofs.Common.{◌≡◌, ◌∙◌, ◌⊎◌, ◌^◌, ◌<◌, ◌≤◌, sym, subst, ℕ, List, [], ◌∷◌, Option, Some, None, length, arith}
 use Rattle.std.proofs.lemmas.List.{take_all}
 use Rattle.devices.specs.Sources.{Source, IsSizeOf, MayGive, Shows, sealed}
 use Rattle.devices.proofs.Shown.{shown_given}
 use Rattle.romfs_seal.specs.declared.digest.Digest.{Digest}
+use Rattle.romfs_seal.specs.Digests.{made_by, is_digest}
+use Rattle.romfs_seal.specs.Twins.{AreForgedIn}
+use Rattle.romfs_seal.proofs.InFull.{read_or_forged}
 use Rattle.romfs_files.specs.declared.loaded.Trailers.{Trailers}
 use Rattle.romfs_files.specs.Sealing.{seal_by}
 use Rattle.reply_model.specs.Readings.{AreShown, Sourced}
@@ -59,3 +63,9 @@ given_is_shown source image bytes given size shown =
 pub read_is_shown : (digest : Digest) (image bytes : List ℕ) (by : IsImageBy (Some digest) image)
     → Shows (sealed (seal_by digest by.0)) bytes → image ≡ bytes
 read_is_shown digest image bytes by shown = given_is_shown (sealed (seal_by digest by.0)) image bytes by.1 by.2 shown
+
+pub read_has : (digest : Digest) (image bytes : List ℕ) (by : IsImageBy (Some digest) image)
+    → 1 ≤ length image → length image < 2 ^ 64 → (has : HasDigest (Some digest) bytes)
+    → (image ≡ bytes) ⊎ AreForgedIn (seal_by digest by.0) bytes has.levels 0 image by.1
+read_has digest image bytes by some small has =
+    read_or_forged (seal_by digest by.0) (λ m. is_digest (made_by digest) m) image bytes by.1 (sym by.2.has) some small has

@@ -1,12 +1,13 @@
 //! What is held of the images of a line, by what loading and preparing promise.
 
-ghost use Rattle.std.specs.Prelude.{◌≡◌, ◌≤◌, ◌⊎◌, ◌↔◌, ℕ, List, [], true, false, length, Some};
+ghost use Rattle.std.specs.Prelude.{◌≡◌, ◌^◌, ◌<◌, ◌≤◌, ◌⊎◌, ◌↔◌, ℕ, List, [], true, false, length, Some};
 ghost use Rattle.romfs_format.specs.Profiles.{asks_sums, reads_attributes};
 ghost use Rattle.romfs_format.specs.Rules.{IsSound};
 ghost use Rattle.romfs_image.specs.declared.refusal.CheckFault.{CheckFault};
 ghost use Rattle.romfs_image.specs.Refusals.{IsRefusal};
 ghost use Rattle.devices.specs.Sources.{Source, Shows, sealed};
 ghost use Rattle.romfs_seal.specs.declared.digest.Digest.{Digest};
+ghost use Rattle.romfs_seal.specs.Twins.{AreForgedIn};
 ghost use Rattle.romfs_files.specs.Sealing.{seal_by};
 ghost use Rattle.romfs_files.specs.Loaded.{WasGathered};
 ghost use Rattle.romfs_files.specs.Opening.{IsHeldWhole, loaded_bytes};
@@ -71,7 +72,8 @@ pub fn whole_images_are_judged_as_their_files<F: FileExt, A: Allocator>()
 
 /// Under the digests of a line no other images are served, checked or listed: the images that its
 /// sources show have these digests, each its own; and an image that is read in full is the one with
-/// the digest, unless a read returned, instead of a block, another with its digest.
+/// the digest, unless a read returned, instead of a block, another with its digest. If it is not
+/// empty, it is every one with the digest, or such a block or descriptor was met: no premise.
 pub fn images_have_their_digests()
     ensures shown { (line : Line) (kept images : List (List ℕ)) (by : Sourced)
         (p : ArePrepared line kept by) → (AreReadWhole line p.sources.told → ⊥) →
@@ -80,6 +82,9 @@ pub fn images_have_their_digests()
         AreShown read.sources images → AreEachBy HasDigest line.digests.items images }
     ensures read { (digest : Digest) (image bytes : List ℕ) (by : IsImageBy (Some digest) image) →
         Shows (sealed (seal_by digest by.0)) bytes → image ≡ bytes }
+    ensures met { (digest : Digest) (image bytes : List ℕ) (by : IsImageBy (Some digest) image) →
+        1 ≤ length image → length image < 2 ^ 64 → (has : HasDigest (Some digest) bytes) →
+        (image ≡ bytes) ⊎ AreForgedIn (seal_by digest by.0) bytes has.levels 0 image by.1 }
 {}
 
 /// A line has one option for sums and two for attributes, and its stack has its owner.

@@ -1,4 +1,4 @@
-use Rattle.strata_images.proofs.ByDigest.{read_is_shown, reported_have_digests, shown_have_digests}
+use Rattle.strata_images.proofs.ByDigest.{read_has, read_is_shown, reported_have_digests, shown_have_digests}
 use Rattle.strata_images.proofs.laws.images_have_their_digests.Goals as goal
 
 pub returns-clause-shown : goal.returns-clause-shown
@@ -9,3 +9,6 @@ returns-clause-reported c = reported_have_digests
 
 pub returns-clause-read : goal.returns-clause-read
 returns-clause-read c = read_is_shown
+
+pub returns-clause-met : goal.returns-clause-met
+returns-clause-met c = read_has
