@@ -1,12 +1,12 @@
 //! The numbers of blocks that are kept, and how one is found among them.
 //!
-//! All numbers up to the last are cut into stretches of one length, a power of two, with about
-//! sixteen kept numbers each. If small files lie beside huge ones, most stretches have none and a
-//! few have very many. Each is therefore cut once more, into parts of one length, as many as leave
-//! four to eight numbers for each. For a part, the number of kept ones before it is noted. A block
-//! is usually among the first sixteen from there on, which are tried one by one. A note is a guess:
+//! All numbers up to the last are cut into stretches of one length, a power of two, with about 32
+//! kept numbers each. If small files lie beside huge ones, most stretches have none and a few have
+//! very many. Each is therefore cut once more, into parts of one length, as many as leave eight to
+//! sixteen numbers for each. For a part, the number of kept ones before it is noted. A block is
+//! usually among the first sixteen from there on, which are tried one by one. A note is a guess:
 //! for any other block it is checked against the numbers at its ends and searched by halves. If it
-//! is wrong, or there is none, all numbers are searched. Notes take less than two bytes for each
+//! is wrong, or there is none, all numbers are searched. Notes take less than a byte for each
 //! block, and three steps. If all blocks up to one are kept, it is found without notes: its number
 //! is its position.
 
@@ -16,13 +16,14 @@ ghost use Rattle.romfs_held.specs.Blocks.{Rises, IsRank, HoldsRank};
 use std::alloc::{AllocError, Allocator};
 
 /// How many numbers a part should have at least.
-const FEW: usize = 4;
+const FEW: usize = 8;
 
 /// How many numbers a stretch should have.
 const MANY: usize = 4 * FEW;
 
-/// How many numbers from the first of a part on are looked at one by one.
-const NEAR: usize = 4 * FEW;
+/// How many numbers from the first of a part on are looked at one by one: as many as a part has at
+/// most if they lie evenly, which are in one or two cache lines.
+const NEAR: usize = 2 * FEW;
 
 /// The numbers of blocks, rising, with what is noted of them.
 #[derive(Clone, Copy)]
@@ -149,8 +150,8 @@ impl<A: Allocator> Stretches<A> {
         Ok(())
     }
 
-    /// Drops what is noted beyond these numbers, the first of those that were noted, with its memory
-    /// if the allocator grants a smaller one.
+    /// Drops what is noted beyond these numbers, the first of those that were noted, with its
+    /// memory if the allocator grants a smaller one.
     pub(crate) fn keep_first(&mut self, numbers: &[u32]) {
         let last = match numbers.last() {
             Some(last) => *last,
