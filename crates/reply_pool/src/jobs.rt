@@ -3,13 +3,12 @@
 ghost use Rattle.std.specs.Prelude.{◌≡◌, ◌+◌, ◌≤◌, ◌^◌, ◌++◌, ℕ, List, length, IfOk, OnOk};
 ghost use Rattle.serve_loop.specs.declared.limits.TheConstants.{MAX_ROUND_MESSAGES};
 ghost use Rattle.fuse_answer.specs.Puts.{AreSmall, sourced_by};
-ghost use Rattle.fuse_wire.specs.Reads.{asked_of};
 ghost use Rattle.reply_model.specs.Balances.{weight};
-ghost use Rattle.reply_rounds.specs.Jobs.{HasFewItems, IsReplyTo, IsRounded, moved_by};
+ghost use Rattle.reply_rounds.specs.Jobs.{IsReplyTo, IsRounded, moved_by};
 
 use devices::Contents;
 use fuse_answer::{Served, answer, moves};
-use fuse_wire::{Op, Replies, Request};
+use fuse_wire::{Replies, Request};
 use reply_model::{Move, Session};
 use reply_rounds::{Rounded, sums};
 use std::alloc::{AllocError, Allocator};
@@ -51,21 +50,5 @@ fn answer_job<A: Allocator, D: Contents, B: Allocator>(
 {
     let (session, request) = job;
     answer(served, *session, request, bytes)?;
-    few_items_of(request);
     moves(served.table, *session, request, moved)
-}
-
-// A request has few items, which bounds the lookups that it moves. This function only states that.
-fn few_items_of(request: &Request<'_>)
-    ensures { HasFewItems (asked_of request.now).op }
-{
-    match request.op {
-        Op::BatchForget { items } => {
-            let _few = items.len();
-        }
-        Op::Readdirplus { offset: _, size } => {
-            let _few = size;
-        }
-        _ => {}
-    }
 }

@@ -1,10 +1,8 @@
 -- The result of a round of jobs.
-use Rattle.std.specs.Prelude.{◌≡◌, ℕ, ◌<◌, ◌≤◌, ◌^◌, List, [], ◌∷◌, ◌++◌, length}
+use Rattle.std.specs.Prelude.{◌≡◌, ℕ, List, [], ◌∷◌, ◌++◌}
 use Rattle.std.specs.List.{flat_map}
 use Rattle.fuse_wire.specs.declared.request.Request.{Request}
 use Rattle.fuse_wire.specs.Reads.{asked_of}
-use Rattle.fuse_wire.specs.Requests.{Op, at_node, readdirplus, silent, batch_forget}
-use Rattle.fuse_wire.specs.declared.limits.TheConstants.{MAX_FORGETS}
 use Rattle.stack_model.specs.Listing.{Stacked}
 use Rattle.reply_model.specs.declared.moves.Move.{Move}
 use Rattle.reply_model.specs.declared.session.Session.{Session}
@@ -37,10 +35,3 @@ pub record IsRounded {A : Type 0} (by : Sourced) (jobs : List Job)
     (rounded : Rounded A) : Type 0 where
   pub replies : AreReplied by jobs rounded.bytes.items
   pub sums : AreSums (flat_map (moved_by by.stack) jobs) rounded.moves.items
-
--- a request has no more items than a message has room for, and asks for no more rows than 32 bits
--- can count
-abbrev pub HasFewItems : Op → Type 0
-HasFewItems (silent (batch_forget items)) = length items ≤ MAX_FORGETS
-HasFewItems (at_node (readdirplus offset size)) = size < 2 ^ 32
-HasFewItems _ = Unit {0}

@@ -1,14 +1,14 @@
 -- The last answer of a device, from the result of a push or a pull.
-use Rattle.std.proofs.Common.{◌≡◌, ◌==◌, ◌∙◌, sym, ap, eqb-true, refl, ℕ, ℤ, pos, negsuc, Bool, true, false, if◌then◌else◌, ◌⊎◌, inl, inr, List, Option, Some, None, Result, Ok, Err}
-use Rattle.devices.specs.Counting.{up}
+use Rattle.std.proofs.Common.{◌≡◌, ◌==◌, ◌∙◌, ◌+◌, ◌^◌, ◌<◌, ◌≤◌, sym, ap, eqb-true, arith, refl, ℕ, ℤ, pos, negsuc, Bool, true, false, if◌then◌else◌, ◌⊎◌, inl, inr, List, Option, Some, None, Result, Ok, Err}
+use Rattle.devices.specs.Counting.{held_sum, up}
 use Rattle.devices.specs.declared.failed.Failed.{Failed}
 use Rattle.serve_device.specs.declared.answer.Answer.{Answer}
 use Rattle.serve_device.specs.declared.answer.Answer.TheVariants.{Bytes, Failure}
 use Rattle.serve_device.specs.declared.trouble.Trouble.{Trouble}
 use Rattle.serve_device.specs.declared.trouble.Trouble.TheVariants.{Again, Unwanted, Gone, Fault}
-use Rattle.serve_device.specs.Answers.{as_failed}
+use Rattle.serve_device.specs.Answers.{as_failed, asks_again, is_again}
 use Rattle.serve_device.specs.FirstReply.{PutsReply, Writes, after_trouble, after_write}
-use Rattle.serve_device.specs.Reads.{PullsMessage, ReaderState, after_read, spent_trouble}
+use Rattle.serve_device.specs.Reads.{HasGivenUp, PullsMessage, ReaderState, after_read, settled_after, spent_trouble}
 use Rattle.serve_device.specs.Troubles.{gone_after, read_trouble, write_trouble}
 use Rattle.serve_device.specs.Writes.{WriterState}
 
@@ -131,10 +131,39 @@ got_by n (Bytes m) (Err t) e r = absurd (cc)
 got_by n (Failure number) (Ok k) e r = absurd (cc)
 got_by n (Failure number) (Err t) e r = absurd (cc)
 
--- if a pull returned this much, its last read did
-pub done_pull : (n : ℕ) (old new : ReaderState) (was is : Bool) → PullsMessage (Ok n) old new was is → new.last ≡ Some (Bytes n)
+-- a pull reads once at least, and at most 1,024 times
+pub tried_pull : (result : Result ℕ Failed) (old new : ReaderState) (was is : Bool) → PullsMessage result old new was is
+    → old.reads + 1024 < 2 ^ 64 → (old.reads < new.reads) × (new.reads ≤ old.reads + 1024)
+tried_pull result old new was is p room =
+    let counted = p.reads.counted in let some = p.reads.some in let most = p.reads.most in (omega arith, omega arith)
+
+-- if a pull returned this much, its last read did, which alone was not interrupted
+pub done_pull : (n : ℕ) (old new : ReaderState) (was is : Bool) → PullsMessage (Ok n) old new was is
+    → (new.last ≡ Some (Bytes n)) × (new.settled ≡ up old.settled)
 done_pull n old new was is p =
-    p.reads.last ∙ ap Some (got_by n p.reads.answer p.outcome p.reads.outcome_is p.result_is)
+    let gave = got_by n p.reads.answer p.outcome p.reads.outcome_is p.result_is in
+    (p.reads.last ∙ ap Some gave, p.reads.settled ∙ ap (settled_after old.settled) gave)
+
+failed_by : (answer : Answer) (outcome : Result ℕ Trouble) (failed : Failed) → outcome ≡ after_read answer
+    → Err failed ≡ as_failed outcome → (number : Option ℤ) × (answer ≡ Failure number)
+failed_by (Bytes m) (Ok k) failed e r = absurd (cc)
+failed_by (Bytes m) (Err t) failed e r = absurd (cc)
+failed_by (Failure number) outcome failed e r = (number, refl)
+
+-- if a pull failed, so did its last read; and all of its reads were interrupted if that one was
+pub failed_pull : (failed : Failed) (old new : ReaderState) (was is : Bool) → PullsMessage (Err failed) old new was is → HasGivenUp old new
+failed_pull failed old new was is p = go (failed_by p.reads.answer p.outcome failed p.reads.outcome_is p.result_is)
+  where
+    go : (number : Option ℤ) × (p.reads.answer ≡ Failure number) → HasGivenUp old new
+    go (number, same) = record {
+      number = number;
+      last = p.reads.last ∙ ap Some same;
+      spent = λ again.
+          let asks : asks_again p.reads.answer ≡ true = ap asks_again same ∙ ap is_again again in (
+            p.reads.settled ∙ ap (λ (a : Bool). if a then old.settled else up old.settled) asks,
+            p.reads.counted ∙ ap (held_sum old.reads) (p.reads.spent asks),
+          );
+    }
 
 gone_read_by : (answer : Answer) → after_read answer ≡ Err Gone → answer ≡ Failure (Some (pos 19))
 gone_read_by (Bytes n) e = absurd (cc)

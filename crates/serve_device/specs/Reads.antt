@@ -1,5 +1,5 @@
 -- read(2) on /dev/fuse: what a contract sees of a reader, of its last read, and of a pull.
-use Rattle.std.specs.Prelude.{◌≡◌, ◌≤◌, ◌<◌, ℕ, Bool, true, if◌then◌else◌, List, Option, Some, Result, Ok, Err}
+use Rattle.std.specs.Prelude.{◌≡◌, ◌≤◌, ◌<◌, ℕ, ℤ, Bool, true, if◌then◌else◌, List, Option, Some, Result, Ok, Err}
 use Rattle.std.specs.Io.KnownBytes.{ReadConsumes}
 use Rattle.std.specs.declared.io.Error.{Error}
 use Rattle.devices.specs.Counting.{held_sum, up}
@@ -79,3 +79,10 @@ pub record PullsMessage (result : Result ℕ Failed) (old new : ReaderState)
   pub reads : ReadsLast outcome old new
   pub gone : is_gone ≡ gone_after was_gone outcome
   pub result_is : result ≡ as_failed outcome
+
+-- a pull failed in its last read; if that was interrupted, so was each of 1,024
+pub record HasGivenUp (old new : ReaderState) : Type 0 where
+  pub number : Option ℤ
+  pub last : new.last ≡ Some (Failure number)
+  pub spent : read_trouble number ≡ Again
+      → (new.settled ≡ old.settled) × (new.reads ≡ held_sum old.reads 1024)

@@ -1,11 +1,11 @@
 //! What follows from the definition of the first reply, and what pushes and pulls say about the
 //! device.
 
-ghost use Rattle.std.specs.Prelude.{◌≡◌, ◌⊎◌, ◌≤◌, ℕ, pos, List, Bool, true, false, Some, Result, Ok};
+ghost use Rattle.std.specs.Prelude.{◌≡◌, ◌⊎◌, ◌≤◌, ◌<◌, ◌+◌, ◌^◌, ℕ, pos, List, Bool, true, false, Some, Result, Ok, Err};
 ghost use Rattle.devices.specs.Counting.{up};
 ghost use Rattle.devices.specs.declared.failed.Failed.{Failed};
 ghost use Rattle.serve_device.specs.FirstReply.{BeginsReply, IsWithinFirst, PutsReply};
-ghost use Rattle.serve_device.specs.Reads.{PullsMessage, ReaderState};
+ghost use Rattle.serve_device.specs.Reads.{HasGivenUp, PullsMessage, ReaderState};
 ghost use Rattle.serve_device.specs.Writes.{WriterState};
 ghost use Rattle.serve_device.specs.declared.answer.Answer.TheVariants.{Bytes, Failure};
 
@@ -26,12 +26,24 @@ pub fn pushes_write()
         PutsReply bytes result old new false true → new.last ≡ Some (Failure (Some (pos 19))) }
 {}
 
-/// A pull that returned bytes, or the end, took that from its last read. If it leaves its source
-/// gone, that read returned ENODEV (19).
+/// A pull that returned bytes, or the end, took that from its last read, the only one that was not
+/// interrupted. If it leaves its source gone, that read returned ENODEV (19).
 #[tactic(auto, using(crate::proofs::Told::done_pull, crate::proofs::Told::gone_pull))]
 pub fn pulls_read()
     ensures given { (n : ℕ) (old new : ReaderState) (was is : Bool) →
-        PullsMessage (Ok n) old new was is → new.last ≡ Some (Bytes n) }
+        PullsMessage (Ok n) old new was is →
+        (new.last ≡ Some (Bytes n)) × (new.settled ≡ up old.settled) }
     ensures gone { (result : Result ℕ Failed) (old new : ReaderState) →
         PullsMessage result old new false true → new.last ≡ Some (Failure (Some (pos 19))) }
+{}
+
+/// A pull reads at least once, and at most 1,024 times. If it failed, its last read did; if that
+/// was interrupted, so was each of 1,024.
+#[tactic(auto, using(crate::proofs::Told::tried_pull, crate::proofs::Told::failed_pull))]
+pub fn pulls_give_up()
+    ensures tried { (result : Result ℕ Failed) (old new : ReaderState) (was is : Bool) →
+        PullsMessage result old new was is → old.reads + 1024 < 2 ^ 64 →
+        (old.reads < new.reads) × (new.reads ≤ old.reads + 1024) }
+    ensures failed { (failed : Failed) (old new : ReaderState) (was is : Bool) →
+        PullsMessage (Err failed) old new was is → HasGivenUp old new }
 {}

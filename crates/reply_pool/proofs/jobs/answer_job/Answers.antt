@@ -16,4 +16,4 @@ returns-clause-few g c =
     let stack = c.args.served.table.now in
     grown c.moves.result c.args.moved.now.items c.moves.new.into.items (moves stack job.0 (asked_of job.1))
     c.moves.ensures.moves.0
-    (few_moves stack job.0 (asked_of job.1) c.few_items_of.ensures)
+    (few_moves stack job.0 job.1)
