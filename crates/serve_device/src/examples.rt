@@ -1,6 +1,8 @@
-//! Worked examples: ends, and which of two is reported.
+//! Worked examples: ends, and which of several is reported.
 
-ghost use Rattle.serve_device.specs.Examples.{GoneExamples, OrderExamples};
+ghost use Rattle.serve_device.specs.Examples.{GoneExamples, OrderExamples, SeatExamples};
+
+use std::alloc::Allocator;
 
 /// Faults rank before an unmount, in the order of their table.
 pub fn order_example()
@@ -10,4 +12,9 @@ pub fn order_example()
 /// When a failure means an unmount.
 pub fn gone_example()
     ensures { GoneExamples }
+{}
+
+/// Which end is reported of several readers.
+pub fn seats_example<A: Allocator>()
+    ensures { SeatExamples A }
 {}

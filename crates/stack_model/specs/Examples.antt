@@ -1,5 +1,5 @@
 -- Worked examples: modes of each kind, the numbers of devices, sizes, the paths of two layers,
--- nested directories, and rows of attributes.
+-- nested directories, and rows of attributes, in one layer and in two.
 use Rattle.std.specs.Prelude.{◌≡◌, ℕ, false, true, List, [], ◌∷◌, ◌++◌, map, Some, None, codes}
 use Rattle.std.specs.declared.cmp.Ordering.TheVariants.{Less}
 use Rattle.stack_model.specs.Listing.{Entry, Stacked, stacked, path_cmp}
@@ -198,6 +198,44 @@ pub record RowExamples : Type 0 where
   pub root_without : mode_at owned_stack (0, 0) ≡ 0x41ed
   pub of_other_layer : attr_of elsewhere (0, 20) ≡ attr_of nested_stack (0, 20)
   pub of_no_layer : mode_at nested_stack (0, 20) ≡ 0x81a4
+
+-- two layers of five first words of headers. The lower: its root, the directory d, d's file x, a
+-- directory that the upper's whiteout hides, and the file f. The upper: its root, d again, that
+-- whiteout, a file f instead of the lower's, and d's file y
+abbrev pub five_headers : List (List ℕ)
+five_headers =
+    (directory_word ++ directory_word ++ file_word ++ directory_word ++ file_word)
+    ∷ (directory_word ++ directory_word ++ file_word ++ file_word ++ file_word) ∷ []
+
+-- what they show, in order
+abbrev pub five_shown : List Entry
+five_shown =
+    record { path = []; layer = 1; header = 0 }
+    ∷ record { path = codes "d" ∷ []; layer = 1; header = 4 }
+    ∷ record { path = codes "d" ∷ codes "x" ∷ []; layer = 0; header = 8 }
+    ∷ record { path = codes "d" ∷ codes "y" ∷ []; layer = 1; header = 16 }
+    ∷ record { path = codes "f" ∷ []; layer = 1; header = 12 }
+    ∷ []
+
+-- the lower has a row for each header, the upper for d and f alone
+abbrev pub owned_layers : Stacked
+owned_layers = record {
+  layers = five_headers;
+  entries = five_shown;
+  rows =
+      (row_for 0 0o711 ∷ row_for 4 0o700 ∷ row_for 8 0o640 ∷ row_for 12 0o1777
+      ∷ row_for 16 0o4600 ∷ []) ∷ (row_for 4 0o2775 ∷ row_for 12 0o444 ∷ []) ∷ [];
+  lists = [];
+  owner = ROOT;
+  whole = true;
+}
+
+-- the uppermost layer that has a path gives its row, or none: /, d, d/x, d/y and f
+pub record LayerRowExamples : Type 0 where
+  pub modes : map (λ e. mode_at owned_layers (place e)) five_shown
+      ≡ 0x41ed ∷ 0x45fd ∷ 0x81a0 ∷ 0x81a4 ∷ 0x8124 ∷ []
+  pub users : map (λ e. (attr_of owned_layers (place e)).uid) five_shown
+      ≡ 0 ∷ 1000 ∷ 1000 ∷ 0 ∷ 1000 ∷ []
 
 -- the attribute user.a with a value
 abbrev pub user_a : List ℕ → Extended

@@ -1,7 +1,7 @@
 //! Worked examples of attributes and of listed paths, by computation.
 #![tactic(auto, unfolding(crate::proofs::Computing::stacks_on_literals))]
 
-ghost use Rattle.stack_model.specs.Examples.{ModeExamples, DeviceExamples, SizeExamples, LayerExamples, LimitExamples, NestedExamples, RowModeExamples, RowExamples, XattrExamples};
+ghost use Rattle.stack_model.specs.Examples.{ModeExamples, DeviceExamples, SizeExamples, LayerExamples, LimitExamples, NestedExamples, RowModeExamples, RowExamples, LayerRowExamples, XattrExamples};
 
 /// The mode of each kind.
 pub fn modes_example()
@@ -36,6 +36,11 @@ pub fn row_modes_example()
 /// Attributes of nodes with and without a row.
 pub fn rows_example()
     ensures { RowExamples }
+{}
+
+/// Modes and owners of two layers that both have rows.
+pub fn layer_rows_example()
+    ensures { LayerRowExamples }
 {}
 
 /// Extended attributes of nodes with and without a list.
