@@ -161,6 +161,7 @@ class Crate:
             calls = "\n".join(re.findall(r"\b\w+\s*\(|::\s*\w+", bare(rest)))
             more = {it for path in self.files for it in self.files[path].pieces if it not in stays and (
                 it.is_named(said if it.kind == "impl" else code) or it.kind != "impl" and it.is_named(calls)
+                or path in live and it.trait == "Model"
                 or path in live and (it.is_foreign or it.trait in OF_TYPES) and it.is_named(said + rest)
                 or path in live and (it.is_fixed or not self.files[path].begins(it)))}
             if not more:
