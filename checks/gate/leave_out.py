@@ -4,10 +4,10 @@
 `#[cfg(test)]` before a `mod`, a `use`, an `impl` or a `fn` that its functions do not use, and take names out of a
 `use`. This writes these lines behind those of the edit's own: out go all functions that are named neither in what the
 edit changes nor in what that names in turn, and all modules of which nothing is left, unless a definition or a proof
-names a type of theirs. The prover then misses functions that have written answers, and says so; that is no goal, and
-`python3 checks ci` counts goals alone. It looks at names, so functions of one name stay together; where it took too much the rest does
-not compile, and `python3 checks ci` tells that. Of a crate with several edits in must-fail/ each is tried over a proof
-of the whole crate, so there nothing is left out.
+names a type of theirs. A program's `main` is left empty. The prover then misses functions that have written answers, and
+says so; that is no goal, and `python3 checks ci` counts goals alone. It looks at names, but not in clauses, so functions
+of one name stay together; where it took too much the rest does not compile, and `python3 checks ci` tells that. Of a
+crate with several edits in must-fail/ each is tried over a proof of the whole crate, so there nothing is left out.
 """
 import glob
 import os
@@ -15,12 +15,19 @@ import re
 import sys
 
 from checks import ROOT
+from checks.gate.judged import owner_of
 from checks.gate.trial_edits import applied, bodies_of, written_in
 
 OUT = "#[cfg(test)] "
+# a program has a `main`
+EMPTY = "fn main() {} "
 VISIBLE = r"(?:pub(?:\([a-z]+\))? )?"
 # traits of which a type that is only named may be asked
 OF_TYPES = {"Clone", "Copy", "Drop", "Eq", "Model", "Ord", "PartialEq", "PartialOrd"}
+
+
+# where a clause begins
+CLAUSE = re.compile(r"\b(?:requires|ensures|ghost)\b(?: \w+)?(?: =)? \{")
 
 
 def plain(text):
@@ -28,12 +35,24 @@ def plain(text):
     return re.sub(r'"(?:[^"\\]|\\.)*"', '""', re.sub(r"//[^\n]*", "", text))
 
 
+def bare(code):
+    """Code without clauses, which name types and no function."""
+    while clause := CLAUSE.search(code):
+        ends, depth = clause.end(), 1
+        while depth and ends < len(code):
+            depth += {"{": 1, "}": -1}.get(code[ends], 0)
+            ends += 1
+        code = code[:clause.start()] + code[ends:]
+    return code
+
+
 class Piece:
     """A function, or a block that implements a trait for a type: what may be left out by itself. `opens` is the line in which
     a function's body opens."""
 
-    def __init__(self, lines, kind, first, head, ends, opens):
+    def __init__(self, lines, kind, first, head, ends, opens, owner=None):
         self.kind, self.first, self.ends, self.head = kind, first, ends, lines[head].strip()
+        self.owner = owner
         # the compiler can't pass over clauses with quotes
         self.is_fixed = any('"' in it for it in lines[head:opens])
         self.text = "\n".join(lines[first:ends + 1])
@@ -54,7 +73,7 @@ class Piece:
         if self.kind == "fn":
             return re.search(r"(?<![.\w])%s\b" % self.name, text)
         if self.kind == "method":
-            return re.search(r"(\.|::)\s*%s\b" % self.name, text)
+            return re.search(r"(\.|>::|\b%s::|\bSelf::)\s*%s\b" % (self.owner, self.name), text)
         called = self.is_foreign or re.search(r"\b%s\b" % self.trait, text)
         called = called or any(re.search(r"(\.|::)\s*%s\b" % it, text) for it in self.methods)
         return called and re.search(r"\b%s\b" % self.name, text)
@@ -74,10 +93,11 @@ class Source:
             if is_of_trait:
                 self.pieces.append(Piece(self.lines, "impl", first, head, ends, head))
         for it in bodies_of(self.text):
-            within = [(word, ends) for word, first, _, ends in blocks if first <= it.first < ends]
+            within = [(word, top) for word, first, top, ends in blocks if first <= it.first < ends]
             if not within or within[0][0] == "impl" and not any(p.first <= it.first <= p.ends for p in self.pieces):
                 head = next(at for at in range(it.first, it.ends + 1) if re.match(r" *%s(?:\w+ )*fn %s\b" % (VISIBLE, it.name), self.lines[at]))
-                self.pieces.append(Piece(self.lines, "method" if within else "fn", it.first, head, it.ends, it.opens))
+                owner = owner_of(self.lines[within[0][1]])[1] if within else None
+                self.pieces.append(Piece(self.lines, "method" if within else "fn", it.first, head, it.ends, it.opens, owner))
         own = {at for it in self.pieces for at in range(it.first, it.ends + 1)}
         used = r"\s*(ghost use|%suse)\b" % VISIBLE
         self.rest = plain("\n".join(line for at, line in enumerate(self.lines) if at not in own and not re.match(used, line)))
@@ -133,14 +153,16 @@ class Crate:
         written = plain("\n".join(it[4:] for it in lines if it.startswith("new:")))
         stays = {it for path, text in texts.items() if path in self.files for it in self.files[path].pieces if it.text not in text}
         while True:
-            code = "\n".join([written, *(plain(it.text) for it in stays)])
-            live = {path for path in self.modules.values() if path in self.named or self.is_live(path, stays, code)}
+            said = "\n".join([written, *(plain(it.text) for it in stays)])
+            code = bare(said)
+            live = {path for path in self.modules.values() if path in self.named or self.is_live(path, stays, said)}
             rest = "\n".join(self.files[path].rest for path in live)
             live |= {path for path in self.modules.values() if self.has_type(path, rest)}
-            calls = "\n".join(re.findall(r"\b\w+\s*\(|::\s*\w+", rest))
+            calls = "\n".join(re.findall(r"\b\w+\s*\(|::\s*\w+", bare(rest)))
             more = {it for path in self.files for it in self.files[path].pieces if it not in stays and (
-                it.is_named(code) or it.kind != "impl" and it.is_named(calls)
-                or path in live and (it.is_foreign or it.trait in OF_TYPES) and it.is_named(code + rest)
+                it.is_named(said if it.kind == "impl" else code) or it.kind != "impl" and it.is_named(calls)
+                or path in live and it.trait == "Model"
+                or path in live and (it.is_foreign or it.trait in OF_TYPES) and it.is_named(said + rest)
                 or path in live and (it.is_fixed or not self.files[path].begins(it)))}
             if not more:
                 return stays, live
@@ -169,7 +191,7 @@ class Crate:
         for piece in source.pieces:
             begins = source.begins(piece)
             if piece not in stays and begins:
-                yield begins, OUT + begins
+                yield begins, (EMPTY if piece.name == "main" else "") + OUT + begins
 
 
 def without(lines, names, gone):
@@ -193,7 +215,7 @@ def is_left_out(old, new):
     """Whether a pair of texts leaves something out: a mark stands before it, or a `use` has fewer names."""
     listed = re.fullmatch(r"(%suse [\w:]+::\{)?[\w, ]+(\};)?" % VISIBLE, old)
     names = re.findall(r"\w+", new)
-    return new == OUT + old or listed and len(names) < len(re.findall(r"\w+", old)) and set(names) <= set(re.findall(r"\w+", old))
+    return new.removeprefix(EMPTY) == OUT + old or listed and len(names) < len(re.findall(r"\w+", old)) and set(names) <= set(re.findall(r"\w+", old))
 
 
 def own(written):

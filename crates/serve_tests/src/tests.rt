@@ -1,6 +1,5 @@
 //! The modules of tests, and what they share.
 
-mod balances;
 mod failing;
 mod frames;
 mod gates;
