@@ -7,8 +7,8 @@
 //! usually among the first sixteen from there on, which are tried one by one. A note is a guess:
 //! for any other block it is checked against the numbers at its ends and searched by halves. If it
 //! is wrong, or there is none, all numbers are searched. Notes take less than a byte for each
-//! block, and three steps. If all blocks up to one are kept, it is found without notes: its number
-//! is its position.
+//! block, and three steps. If all blocks up to one are kept, or from one to the last, as those of a
+//! trailer are, it is found without notes: its number tells its position.
 
 ghost use Rattle.std.specs.Prelude.{◌≡◌, ◌<◌, ◌≤◌, ◌^◌, length, slice_index, IsTrue, IfSome};
 ghost use Rattle.romfs_held.specs.Blocks.{Rises, IsRank, HoldsRank};
@@ -60,8 +60,8 @@ impl<'a> Numbers<'a> {
         rank_within(self.all, within, block)
     }
 
-    // The position of the block, if all blocks up to it are kept, or it is among the first of its
-    // part.
+    // The position of the block, if all blocks up to it, or from it to the last, are kept, or it is
+    // among the first of its part.
     #[inline(always)]
     fn found_soon(&self, block: u32) -> Option<usize>
         ensures { IfSome result (λ at. (at < length self.now.all.now)
@@ -72,6 +72,9 @@ impl<'a> Numbers<'a> {
         if first < all.len() && all[first] == block {
             return Some(first);
         }
+        if let Some(position) = self.from_last(block) {
+            return Some(position);
+        }
         let part = part_of(self.stretches, self.digits, block)?;
         let low = *self.notes.get(part)? as usize;
         let high = all.len().min(low.saturating_add(NEAR));
@@ -81,6 +84,21 @@ impl<'a> Numbers<'a> {
             }
         }
         None
+    }
+
+    // The position of the block, if all blocks from it to the last are kept.
+    #[inline(always)]
+    fn from_last(&self, block: u32) -> Option<usize>
+        ensures { IfSome result (λ at. (at < length self.now.all.now)
+            × (slice_index self.now.all.now at ≡ block)) }
+    {
+        let behind = self.all.last()?.checked_sub(block)? as usize;
+        let position = self.all.len().checked_sub(behind + 1)?;
+        if self.all[position] == block {
+            Some(position)
+        } else {
+            None
+        }
     }
 
     // Between which positions the rank of a block is.
