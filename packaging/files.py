@@ -25,7 +25,7 @@ SNAPSHOTTER = ("bin/strata-snapshotter", "strata_snapshotter.command", "sys.argv
 SNAPSHOTTER_PACKAGE, SNAPSHOTTER_PAGE = "strata_snapshotter", "strata-snapshotter.8"
 UNITS = "lib/systemd/system"
 # python looks neither into the environment nor into a user's folder, but for two variables, which name the folder of its
-# own modules and are taken away before it; without S it finds packages of the system
+# own modules and are removed before it; without S it finds packages of the system
 ALONE, WITH_PACKAGES = "IBS", "IB"
 # the folder of the packages that these programs are made of
 MODULES = "lib/strata"
