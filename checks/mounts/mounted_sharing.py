@@ -468,7 +468,7 @@ def hold_refused_calls(room, image):
     if os.uname().machine != "x86_64":
         return
     path, parent = room.write(b"data"), os.getpid()
-    tried = [lambda: os.open(image, os.O_WRONLY), lambda: os.open(image, os.O_RDONLY | os.O_TRUNC),
+    tried = [lambda: os.open(image, os.O_WRONLY), lambda: os.open(image, os.O_RDONLY | os.O_TRUNC), lambda: os.open(path, os.O_PATH),
              lambda: os.unlink(path), lambda: os.chmod(path, 0), os.fork, socket.socket,
              lambda: os.kill(parent, 0), lambda: os.setuid(0)]
     tried += [lambda: os.open(path, os.O_RDONLY)] * has_landlock()

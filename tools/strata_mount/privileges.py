@@ -39,7 +39,7 @@ CALLS = {
     "statx": 332, "rseq": 334}
 # those that depend on an argument
 IOCTL, CLONE, TGKILL, OPENAT, PRLIMIT64 = 16, 56, 234, 257, 302
-WRITES = os.O_WRONLY | os.O_RDWR | os.O_CREAT | os.O_TRUNC
+NOT_TO_READ = os.O_WRONLY | os.O_RDWR | os.O_CREAT | os.O_TRUNC | os.O_PATH
 CLONE_THREAD, TCGETS = 0x10000, 0x5401
 
 
@@ -64,7 +64,7 @@ def filter_program(process):
         steps += [step(EQUAL, number, 0, 1), step(GIVE, ALLOWED)]
     # files are opened to read alone; threads are made, and no process; signals go to this process
     # alone, and limits are of it; a descriptor is asked whether it is a terminal
-    steps += depending(OPENAT, 2, ANY_BIT, WRITES, is_wanted=False)
+    steps += depending(OPENAT, 2, ANY_BIT, NOT_TO_READ, is_wanted=False)
     steps += depending(CLONE, 0, ANY_BIT, CLONE_THREAD)
     steps += depending(TGKILL, 0, EQUAL, process)
     steps += depending(PRLIMIT64, 0, EQUAL, 0)
