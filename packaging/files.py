@@ -24,7 +24,8 @@ PROGRAMS = (
 SNAPSHOTTER = ("bin/strata-snapshotter", "strata_snapshotter.command", "sys.argv[1:]")
 SNAPSHOTTER_PACKAGE, SNAPSHOTTER_PAGE = "strata_snapshotter", "strata-snapshotter.8"
 UNITS = "lib/systemd/system"
-# python looks neither into the environment nor into a user's folder; without S it finds packages of the system
+# python looks neither into the environment nor into a user's folder, but for two variables, which name the folder of its
+# own modules and are removed before it; without S it finds packages of the system
 ALONE, WITH_PACKAGES = "IBS", "IB"
 # the folder of the packages that these programs are made of
 MODULES = "lib/strata"

@@ -1,4 +1,4 @@
-#!@PYTHON@ -@FLAGS@
+#!/usr/bin/env -S -u PYTHONEXECUTABLE -u __PYVENV_LAUNCHER__ @PYTHON@ -@FLAGS@
 # @NAME@: what it does stands in lib/strata beside this file, wherever a link to it stands.
 import _signal as signal  # built in: it is there at once
 

@@ -105,7 +105,7 @@ def lean(root):
     images = sorted("/srv/images/" + it for it in os.listdir("/srv/images") if it.endswith(".romfs"))
     os.mkdir("/mnt/lean")
     with open("/usr/local/bin/strata-mount", encoding="utf-8") as it:
-        python = it.readline().split()[0][2:]
+        python = it.readline().split()[-2]
     for words in (("bin/strata-mount", "--background", "/srv/lower.romfs"), ("bin/strata-mount", "--share", "image:lantern"),
                   ("bin/strata-mount", "--background", *images),
                   ("sbin/mount.strata", "/srv/lower.romfs"), ("sbin/mount.strata", "image:lantern")):

@@ -17,6 +17,7 @@ SECONDS = 60
 PLANTED = "/tmp/planted"
 MODULES = ("os", "strata_mount", "strata_layers", "strata_format", "struct", "argparse", "site", "sitecustomize",
            "encodings/__init__")
+OWN_MODULES = ["/lib/python3.%d" % it for it in range(9, 20)]
 PROGRAMS = ("strata", "fusermount3", "python3", "sh")
 
 
@@ -69,9 +70,12 @@ def plant(folder):
     os.makedirs(folder + "/encodings")
     os.makedirs(folder + "/lib/strata")
     for name in MODULES:
-        for place in (folder, folder + "/lib/strata/" * ("/" not in name)):
-            with open(os.path.join(place or folder, name + ".py"), "w", encoding="ascii") as out:
-                out.write("open(%r, 'a').write(%r)\n" % (PLANTED, name))
+        # python takes a folder for that of its own modules if `os.py` is there
+        for place in (folder, folder + "/lib/strata/" * ("/" not in name), *(folder + it for it in OWN_MODULES)):
+            path = os.path.join(place or folder, name + ".py")
+            os.makedirs(os.path.dirname(path), exist_ok=True)
+            with open(path, "w", encoding="ascii") as out:
+                out.write("import posix\nposix.write(posix.open(%r, 0x441, 0o666), %r)\n" % (PLANTED, name.encode()))
     for name in PROGRAMS:
         with open(os.path.join(folder, name), "w", encoding="ascii") as out:
             out.write("#!/bin/sh\necho %s >> %s\n" % (name, PLANTED))
@@ -89,7 +93,7 @@ def surroundings(root):
     named = {name: folder for name in ("PYTHONPATH", "PYTHONHOME", "PYTHONUSERBASE", "HOME", "TMPDIR", "XDG_DATA_HOME")}
     odd = {"PATH": folder + ":/usr/bin", "PYTHONSTARTUP": folder + "/os.py", "PYTHONINSPECT": "1", "PYTHONMALLOC": "odd", "IFS": "/",
            "PYTHONIOENCODING": "rot13", "PYTHONUTF8": "x", "LANG": "xx", "LC_ALL": "xx_YY", "BASH_ENV": folder + "/sh",
-           "_FUSE_COMMFD": "3", **named}
+           "_FUSE_COMMFD": "3", "PYTHONEXECUTABLE": folder + "/python3", "__PYVENV_LAUNCHER__": folder + "/python3", **named}
     for helper in (HELPER, "./mount.strata", "sbin/mount.strata"):
         for mask in (0, 0o777):
             done = root.run(helper, STACK, PLACE, cwd=folder, env=odd, umask=mask)
@@ -97,6 +101,10 @@ def surroundings(root):
             hold_stack(root, PLACE)
             taken_away(root)
         held_refused(root, helper, NOT_MOUNTED, "no such file", helper, "/none", PLACE, cwd=folder, env=odd)
+    for words in (("strata-mount", "--background", LOWER, PLACE), ("strata-mount", "--share", "--replace", LOWER, PLACE),
+                  ("strata-layers", "image", "/usr/local/lib/strata", "/srv/image.romfs"), ("strata-layers", "seal", LOWER)):
+        hold(words[0], 0, root.run("/usr/local/bin/" + words[0], *words[1:], cwd=folder, env=odd).status)
+    taken_away(root)
     hold("what was planted", False, os.path.exists(PLANTED))
     hold("strata-mount", 0, root.run("strata-mount", "--background", LOWER, PLACE, env=dict(os.environ, SECRET="1")).status)
     for process in servers():

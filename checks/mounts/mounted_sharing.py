@@ -2,6 +2,7 @@
 seen of mounts from outside, a second mount on one folder, and what a server is left of
 privileges."""
 import errno
+import fcntl
 import json
 import os
 import shutil
@@ -15,14 +16,17 @@ from checks.mounts.mounted_trees import file, folder, wanted_of
 from checks.shared.mounting import (SCRIPT, LeftOut, called, children, fails, hold, hold_tree, libc,
                                     places, shown, wait_until)
 from strata_mount.privileges import Confinement
+from strata_mount.sharing import processes
 
 # a server ends so soon after the last mount of it
 SECOND = 1.0
 # of a process, what proc(5) says of its capabilities
 CAPABILITIES = ("CapInh", "CapPrm", "CapEff", "CapAmb")
-READ_SEARCH = 1 << 2
+OVERRIDE, READ_SEARCH = 1 << 1, 1 << 2
 ENDS = {"stdin": subprocess.DEVNULL, "stdout": subprocess.PIPE, "stderr": subprocess.PIPE,
         "text": True}
+# a program that serves once a file is there
+SLOW = "#!/bin/sh\nuntil [ -e %s/go ]; do sleep 0.02; done\nexec %s \"$@\"\n"
 ENDED = os.WEXITED | os.WNOHANG | os.WNOWAIT
 
 
@@ -165,6 +169,85 @@ def revived(room):
     return "ENOTCONN in each folder, and a new server for who asks next"
 
 
+def mistaken(room):
+    """No other stack is shown than the one that was asked for: not where a mount has got the device number of one
+    whose server is about to end, nor where two stacks were mounted at one folder at one moment."""
+    own_runtime()
+    first, second = (room.layer(items_of(text)) for text in (b"1", b"2"))
+    at = share(room, [first])
+    server, number = children().pop(), device_of(at)
+    os.kill(server, signal.SIGSTOP)
+    umount(at)
+    other = share(room, [second])
+    is_same = device_of(other) == number
+    hold("a file, with a server that has not ended", b"1", open_and_read(share(room, [first]) + "/x"))
+    hold("servers", 3, len(children()))
+    os.kill(server, signal.SIGCONT)
+    umount_all(room)
+    hold_at_one_moment(room, first, second)
+    return "a number that is given anew%s; two stacks at one folder" % ("" if is_same else " (left out: it was not)")
+
+
+def umount_all(room):
+    for at in [at for at in places() if at.startswith(room.folder)]:
+        umount(at)
+    wait_until("all servers' end", lambda: not alive())
+
+
+def hold_at_one_moment(room, first, second):
+    """Holds that a mount that answers late, over which another has come, is not taken for that one."""
+    beside = share(room, [second])
+    note = note_of(device_of(beside))
+    umount(beside)
+    slow, go, at = room.write((SLOW % (room.folder, room.program)).encode()), room.folder + "/go", room.place()
+    os.chmod(slow, 0o755)
+    with open(note, "rb") as held:
+        fcntl.flock(held, fcntl.LOCK_EX)
+        over = subprocess.Popen([*room.words(), "--share", second, at], **ENDS)
+        wait_until("it waits", lambda: is_waiting(over.pid))
+        late = subprocess.Popen([*room.words(), "--share", "--strata", slow, first, at], **ENDS)
+        wait_until("the first mount", lambda: at in places())
+    hold("the mount over it", ("", 0), (over.communicate()[1], over.returncode))
+    with open(go, "wb"):
+        hold("the first one", ("", 0), (late.communicate()[1], late.returncode))
+    for words, image, text in ((("--strata", slow), first, b"1"), ((), second, b"2")):
+        hold("a file of %s" % text, text, open_and_read(share(room, [image], *words) + "/x"))
+    umount_all(room)
+
+
+def note_of(device):
+    """The path of the note that names a device."""
+    number = b"%d:%d " % (os.major(device), os.minor(device))
+    found, = [it for it in os.scandir("/run/strata") if it.is_file() and number in open_and_read(it.path)]
+    return found.path
+
+
+def is_waiting(process):
+    """Whether a process waits for a file's lock."""
+    with open("/proc/locks", encoding="ascii") as lines:
+        return any(" -> " in line and str(process) in line.split() for line in lines)
+
+
+def spaces(room):
+    """A run in another namespace of processes takes no mount of this one for one that has gone."""
+    if not shutil.which("unshare"):
+        raise LeftOut("no unshare")
+    own_runtime()
+    image, other = room.layer(items_of(b"1")), room.layer(items_of(b"2"))
+    words = ["unshare", "--pid", "--mount", "--fork", "--kill-child", "--mount-proc", "sh", "-c", 'echo; read it && "$@"', "sh"]
+    inner = subprocess.Popen([*words, *room.words(), "--share", other, room.place()], **{**ENDS, "stdin": subprocess.PIPE})
+    hold("its namespaces are there", "\n", inner.stdout.readline())
+    status, at, _ = run(room, "--share", "--print", image)
+    hold("what it says", ("", ""), inner.communicate("\n"))
+    hold("its status, and that of --print", (0, 0), (inner.returncode, status))
+    hold("the folder that was printed", b"1", open_and_read(at.rstrip("\n") + "/x"))
+    hold("told again", (0, at, ""), run(room, "--share", "--print", image))
+    hold("servers", 1, len(alive()))
+    umount(at.rstrip("\n"))
+    wait_until("the server's end", lambda: not alive())
+    return "what is mounted stays where another namespace of processes shares the notes"
+
+
 def printed(room):
     """--print tells one folder to all; a dead mount there is made anew."""
     own_runtime()
@@ -287,7 +370,7 @@ def other_mount(room, image):
     row = next(line.split() for line in table if theirs in line)
     ticks = open_and_read("/proc/%d/stat" % server).rpartition(b")")[2].split()[19].decode()
     with open("/run/strata/" + note, "w", encoding="ascii") as out:
-        out.write("%s %d %s\n" % (row[2], server, ticks))
+        out.write("%s %d %s %s\n" % (row[2], server, ticks, processes()))
     ours = share(room, [image])
     hold("servers", 2, len(alive()))
     hold("the file system", False, os.minor(device_of(ours)) == int(row[2].split(":")[1]))
@@ -385,7 +468,7 @@ def hold_refused_calls(room, image):
     if os.uname().machine != "x86_64":
         return
     path, parent = room.write(b"data"), os.getpid()
-    tried = [lambda: os.open(image, os.O_WRONLY), lambda: os.open(image, os.O_RDONLY | os.O_TRUNC),
+    tried = [lambda: os.open(image, os.O_WRONLY), lambda: os.open(image, os.O_RDONLY | os.O_TRUNC), lambda: os.open(path, os.O_PATH),
              lambda: os.unlink(path), lambda: os.chmod(path, 0), os.fork, socket.socket,
              lambda: os.kill(parent, 0), lambda: os.setuid(0)]
     tried += [lambda: os.open(path, os.O_RDONLY)] * has_landlock()
@@ -436,8 +519,24 @@ def privileges(room):
         kept = {**none, "CapPrm": READ_SEARCH, "CapEff": READ_SEARCH}
         hold("with another user's image", (kept, 1, filtered), status_of(mount.server))
         mount.end()
+        hold_of_another(room, image, {**none, "CapPrm": READ_SEARCH | OVERRIDE, "CapEff": READ_SEARCH | OVERRIDE}, kept)
     return "no capability, but to read another user's image; a filter of calls%s; -o caps" % (
         "; no file but images" * has_landlock())
 
 
-CHECKS = (sharing, raced, revived, printed, strangers, occupied, listed, privileges)
+def hold_of_another(room, image, to_run, to_pass):
+    """Holds that a server whose program only another user may run is left no more than it takes to start it."""
+    folder = room.place()
+    program, filtered = shutil.copy(room.program, folder), 2 if os.uname().machine == "x86_64" else 0
+    for place, wanted in ((folder, to_pass), (program, to_run)):
+        os.chown(place, OTHER, OTHER)
+        os.chmod(place, 0o700)
+        at = room.place()
+        hold("a mount", (0, "", ""), run(room, "--background", "--strata", program, image, at))
+        server, = children()
+        hold("with another user's %s" % place, (wanted, 1, filtered), status_of(server))
+        umount(at)
+        wait_until("the server's end", lambda: not alive())
+
+
+CHECKS = (sharing, raced, mistaken, spaces, revived, printed, strangers, occupied, listed, privileges)

@@ -1,8 +1,8 @@
 """What a server is left of privileges at startup: none that it has no use for.
 
 strata opens its images, and their trees, by their names at startup, and then only reads them, and reads and
-writes the open /dev/fuse. So of root's capabilities it needs none, or, where an image could not be
-opened else, the one to read files whosever they are. It can gain none again, starts no other
+writes the open /dev/fuse. So of root's capabilities it needs none, or, where an image or strata itself could
+not be opened else, the one to read files whosever they are. It can gain none again, starts no other
 program, opens no files but its images and libraries, those only to read, and has the calls below
 alone. A script in strata's place needs other files and calls, and keeps them.
 """
@@ -13,7 +13,10 @@ from strata_format.system import addressof, c_char, called, libc
 from strata_mount import landlock
 
 PR_SET_NO_NEW_PRIVS, PR_SET_SECCOMP, SECCOMP_MODE_FILTER = 38, 22, 2
-CAPABILITY_VERSION, NONE, READ_SEARCH = 0x20080522, 0, 1 << 2
+CAPABILITY_VERSION, NONE, OVERRIDE, READ_SEARCH = 0x20080522, 0, 1 << 1, 1 << 2
+# what a server may need to be started at all: nothing, to pass through another user's folder, or to
+# run another user's own program
+TO_START = NONE, READ_SEARCH, READ_SEARCH | OVERRIDE
 ELF, MACHINE_NAME = b"\x7fELF", "x86_64"
 
 # linux/filter.h, linux/seccomp.h, linux/audit.h: a filter of calls is a program over their number,
@@ -36,7 +39,7 @@ CALLS = {
     "statx": 332, "rseq": 334}
 # those that depend on an argument
 IOCTL, CLONE, TGKILL, OPENAT, PRLIMIT64 = 16, 56, 234, 257, 302
-WRITES = os.O_WRONLY | os.O_RDWR | os.O_CREAT | os.O_TRUNC
+NOT_TO_READ = os.O_WRONLY | os.O_RDWR | os.O_CREAT | os.O_TRUNC | os.O_PATH
 CLONE_THREAD, TCGETS = 0x10000, 0x5401
 
 
@@ -61,7 +64,7 @@ def filter_program(process):
         steps += [step(EQUAL, number, 0, 1), step(GIVE, ALLOWED)]
     # files are opened to read alone; threads are made, and no process; signals go to this process
     # alone, and limits are of it; a descriptor is asked whether it is a terminal
-    steps += depending(OPENAT, 2, ANY_BIT, WRITES, is_wanted=False)
+    steps += depending(OPENAT, 2, ANY_BIT, NOT_TO_READ, is_wanted=False)
     steps += depending(CLONE, 0, ANY_BIT, CLONE_THREAD)
     steps += depending(TGKILL, 0, EQUAL, process)
     steps += depending(PRLIMIT64, 0, EQUAL, 0)
@@ -101,22 +104,27 @@ class Confinement:
         self.rules = landlock.rules_for(program, files) if is_held else None
 
     def enter(self):
-        """Leaves this process, which becomes the server, what it needs to open its files. The
-        program must be one that it may start without privileges, else it keeps them."""
+        """Leaves this process, which becomes the server, what it needs to start and to open its
+        files."""
         own = permitted()
         if own:
-            set_capabilities(NONE, own)
-            if not os.access(self.program, os.X_OK, effective_ids=True):
-                set_capabilities(own, own)
-                return
-            are_readable = all(os.access(it, os.R_OK, effective_ids=True) for it in self.files)
-            needed = NONE if are_readable else READ_SEARCH & own
+            needed = self.needed(own)
             set_capabilities(needed, needed)
         called(libc.prctl(PR_SET_NO_NEW_PRIVS, 1, 0, 0, 0))
         if self.rules is not None:
             self.rules.hold_self()
         if self.has_filter:
             install_filter()
+
+    def needed(self, own):
+        """What of this process's capabilities is needed; it tries them."""
+        for found in TO_START:
+            set_capabilities(found & own, own)
+            if os.access(self.program, os.X_OK, effective_ids=True):
+                break
+        if not all(os.access(it, os.R_OK, effective_ids=True) for it in self.files):
+            found |= READ_SEARCH
+        return found & own
 
 
 def is_elf(program):

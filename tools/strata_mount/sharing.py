@@ -5,8 +5,9 @@ which is named by what the images and options are. Who comes later finds a mount
 this namespace, and binds it to their own folder. So nothing watches: the kernel ends a file system
 with its last mount, in any namespace, and its server with it.
 
-A mount is joined only if its server is the process that was noted, and if the kernel says
-that it is this user's.
+A mount is joined only if its server is the process that was noted and serves it still, and if the
+kernel says that it is this user's. A device number alone says nothing: it is given to another mount
+at once, while the server of the one that had it may still be about to end.
 """
 import errno
 import fcntl
@@ -15,16 +16,22 @@ import stat
 
 from strata_format import ends
 from strata_format.files import names_in
+from strata_format.system import c_ulong
 from strata_mount import dead_mounts, mounting
 from strata_mount.device import flags_of, take_away
-from strata_mount.mount_table import KIND, mount_at, mounts
+from strata_mount.landlock import call
+from strata_mount.mount_table import KIND, mounts
 from strata_mount.preconditions import hold_images
 from strata_mount.runtime import bind, opened_notes, start_of
 
 NOTE = os.O_RDWR | os.O_CREAT | os.O_NOFOLLOW | os.O_CLOEXEC
+# what stands there instead of a note, as a pipe, is not waited for
+LOOKED_AT = os.O_RDONLY | os.O_NOFOLLOW | os.O_NONBLOCK | os.O_CLOEXEC
 NAME_SIZE, HEX = 16, frozenset("0123456789abcdef")
 # the end of the name of a folder that --print tells
 PRINTED = ".tree"
+# numbers of calls, the same on all machines
+PIDFD_OPEN, PIDFD_GETFD = 434, 438
 ANY_PLACE = os.O_PATH | os.O_DIRECTORY | os.O_NOFOLLOW | os.O_CLOEXEC
 
 
@@ -45,7 +52,7 @@ def identity_of(plan):
         files.append((it.st_dev, it.st_ino, it.st_size, it.st_mtime_ns, it.st_ctime_ns))
     program = os.stat(plan.program)
     options = mounting.option_words(plan), plan.seals(), plan.words, plan.keeps_privileges
-    return repr((files, options, program.st_dev, program.st_ino, program.st_mtime_ns)).encode()
+    return repr((files, options, program.st_dev, program.st_ino, program.st_mtime_ns, processes())).encode()
 
 
 def name_of(identity):
@@ -64,6 +71,11 @@ def is_name(text):
 
 # --- notes ---
 
+def processes():
+    """Which namespace of processes this is: the numbers of another one's say nothing here."""
+    return str(os.stat("/proc/self/ns/pid").st_ino)
+
+
 def noted_servers():
     """The servers of this user's shared mounts by device number."""
     try:
@@ -73,7 +85,7 @@ def noted_servers():
     found = {}
     for name in filter(is_name, names_in(folder)):
         try:
-            number = os.open(name, os.O_RDONLY | os.O_NOFOLLOW | os.O_CLOEXEC, dir_fd=folder)
+            number = os.open(name, LOOKED_AT, dir_fd=folder)
             with open(number, encoding="utf-8", errors="replace") as lines:
                 found.update(live_rows(lines))
         except OSError:
@@ -85,13 +97,14 @@ def noted_servers():
 def live_rows(lines):
     """The device numbers of noted mounts whose servers are there, with the servers."""
     for row in map(str.split, lines):
-        if len(row) == 3 and row[1].isdigit() and str(start_of(int(row[1]))) == row[2]:
+        if len(row) == 4 and row[3] == processes() and row[1].isdigit() and str(start_of(int(row[1]))) == row[2]:
             yield row[0], int(row[1])
 
 
 class Note:
     """The file in which the mounts of one stack are noted: a line for each, of the device number,
-    the server, and when that began. It is locked for this run alone until it is closed."""
+    the server, when that began, and the namespace of its number. It is locked for this run alone
+    until it is closed."""
 
     def __init__(self, folder, name, is_waited_for=True):
         while True:
@@ -106,17 +119,24 @@ class Note:
                 break
             os.close(self.file)
 
-    def live(self):
-        """The device numbers of noted mounts whose servers are there, with the servers."""
+    def lines(self):
         os.lseek(self.file, 0, os.SEEK_SET)
         with open(self.file, encoding="utf-8", errors="replace", closefd=False) as lines:
-            return list(live_rows(lines))
+            return list(lines)
+
+    def live(self):
+        """The device numbers of noted mounts whose servers are there, with the servers."""
+        return list(live_rows(self.lines()))
+
+    def is_of_others(self):
+        """Whether the servers are of another namespace, so that nothing is known of them here."""
+        return any(line.split()[3:] not in ([], [processes()]) for line in self.lines())
 
     def add(self, device, server):
         """Notes a mount beside those whose servers are there."""
         rows = [*self.live(), (device, server)]
         os.ftruncate(self.file, 0)
-        text = "".join("%s %d %s\n" % (it, number, start_of(number)) for it, number in rows)
+        text = "".join("%s %d %s %s\n" % (it, number, start_of(number), processes()) for it, number in rows)
         os.pwrite(self.file, text.encode(), 0)
 
     def close(self):
@@ -124,13 +144,16 @@ class Note:
 
 
 def sweep(folder):
-    """Removes notes of mounts that are all gone, with the folders that were printed for them."""
-    for name in filter(is_name, names_in(folder)):
+    """Removes notes of mounts that are all gone, with the folders that were printed for them. A folder
+    where another namespace may have something mounted stays: removed, it would be unmounted there."""
+    names = names_in(folder)
+    for name in filter(is_name, names):
         try:
             note = Note(folder, name, is_waited_for=False)
         except OSError:
             continue  # another run has locked it, or it has just gone
-        if not note.live() and is_removed(folder, name + PRINTED):
+        is_others = name + PRINTED in names and note.is_of_others()
+        if not is_others and not note.live() and is_removed(folder, name + PRINTED):
             os.unlink(name, dir_fd=folder)
         note.close()
 
@@ -154,20 +177,57 @@ def joinable(plan, note):
             yield it
 
 
+def is_served(note, device):
+    """Whether a server that is noted for a device number serves a mount still."""
+    return any(is_serving(note, row) for row in note.live() if row[0] == device)
+
+
+def is_serving(note, row):
+    """The same of the server in a row. Its own descriptor says so, since that fails once the mount has
+    gone; where it may not be asked, that the server is there."""
+    try:
+        process = call(PIDFD_OPEN, c_ulong(row[1]), c_ulong(0))
+    except OSError as fault:
+        return fault.errno != errno.ESRCH
+    try:
+        # the process with this number is still the one that was noted
+        return row in note.live() and not has_failed(process)
+    finally:
+        os.close(process)
+
+
+def has_failed(process):
+    """Whether the standard input of a process has failed; not where that may not be asked."""
+    import select
+    try:
+        number = call(PIDFD_GETFD, c_ulong(process), c_ulong(0), c_ulong(0))
+    except OSError:
+        return False
+    try:
+        asked = select.poll()
+        asked.register(number, 0)
+        return bool(asked.poll(0))
+    finally:
+        os.close(number)
+
+
 def mount_number(number):
     """The number of the mount that an open file is of."""
     with open("/proc/self/fdinfo/%d" % number, encoding="utf-8") as lines:
         return next(int(line.split()[1]) for line in lines if line.startswith("mnt_id:"))
 
 
-def is_joined(plan, found):
-    """Binds a mount to a plan's folder, if its place still leads to it; whether it did."""
+def is_joined(plan, note, found):
+    """Binds a mount to a plan's folder, if its place still leads to it, and if it is the one that was
+    noted; whether it did."""
     try:
         number = os.open(found.place, ANY_PLACE)
     except OSError:
         return False
     try:
-        if mount_number(number) != found.number:
+        # while it is open nothing else gets its number or that of its device
+        opened = mount_number(number), found.device
+        if opened not in ((it.number, it.device) for it in joinable(plan, note)) or not is_served(note, found.device):
             return False
         return bind(number, plan.folder, flags_of(plan.words))
     finally:
@@ -244,13 +304,20 @@ def joined_or_mounted(plan, note, identity):
     found = list(joinable(plan, note))
     if plan.is_printed and any(it.place == plan.folder for it in found):
         return 0, False
-    if os.geteuid() == 0 and any(is_joined(plan, it) for it in found):
+    if os.geteuid() == 0 and any(is_joined(plan, note, it) for it in found):
         return 0, False
-    return mounting.run(plan, None, lambda server: noted(plan, note, identity, server)), True
+    before = {it.number for it in standing_at(plan.folder)}
+    return mounting.run(plan, None, lambda server: noted(plan, note, identity, server, before)), True
 
 
-def noted(plan, note, identity, server):
-    """Notes a mount that answers, if the images are still the files that they were."""
-    it = mount_at(plan.folder)
-    if it is not None and identity_of(plan) == identity:
-        note.add(it.device, server.pid)
+def standing_at(folder):
+    """All that is mounted at a folder."""
+    return [it for it in mounts() if it.place == folder]
+
+
+def noted(plan, note, identity, server, before):
+    """Notes a mount that answers, if the images are still the files that they were. Where another
+    has mounted there meanwhile nothing tells which is whose, and none is noted."""
+    new = [it for it in standing_at(plan.folder) if it.number not in before]
+    if len(new) == 1 and new[0].kind == KIND and identity_of(plan) == identity:
+        note.add(new[0].device, server.pid)
