@@ -1,6 +1,6 @@
 //! One thread draws through one hand or two, and memory is refused.
 
-use draw_board::{Board, Few};
+use draw_board::Board;
 use std::test::Fail;
 use test_kit::memories::refuse_in_turn;
 use test_kit::refusing::Refusing;
@@ -30,21 +30,6 @@ fn a_board_of_no_numbers(rt: HostRuntime) -> Result<(), Fail> {
     let draws = [board.draw(&mut hand), board.draw(&mut hand)];
     let drawn = board.close(hand);
     assert!(rt; draws == [None; 2] && drawn == 1);
-    Ok(())
-}
-
-#[test]
-fn none_or_all_misses_are_not_given(rt: HostRuntime) -> Result<(), Fail> {
-    let (board, mut hand) = Board::start(rt.alloc(), 1, 2)?;
-    let refused = [
-        board.split(&mut hand, 0).err(),
-        board.split(&mut hand, 2).err(),
-        board.split(&mut hand, u32::MAX).err(),
-    ];
-    let drawn = board.draw(&mut hand);
-    let draws = board.close(hand);
-    assert_eq!(rt; refused, [Some(Few), Some(Few), Some(Few)]);
-    assert!(rt; drawn == Some(0) && draws == 1);
     Ok(())
 }
 
