@@ -1,6 +1,7 @@
--- Reading parts of a node's data: their length (`part_long`), their place in the image of their layer (`part_there`), and that a READ gets
--- what it asks for (`read_decided`). Possible replies: with no bytes the reply itself (`nothing_told`), also without a file (`table_told`)
--- and from held bytes (`held_appended`); from the file of their layer what the file returns (`file_read`).
+-- Reading a node's data: their length (`data_long`) and place in the image of their layer (`data_there`), those of a part (`part_long`,
+-- `part_there`), and that a READ gets what it asks for (`read_decided`). Possible replies: with no bytes the reply itself
+-- (`nothing_told`), also without a file (`table_told`) and from held bytes (`held_appended`); from the file of their layer what the file
+-- returns (`file_read`).
 use Rattle.std.proofs.Common.{◌≡◌, ◌∙◌, sym, ap, subst, ℕ, ◌+◌, ◌-◌, ◌≤◌, min, inl, List, [], ◌++◌, length, take, drop, map, Bool, Bor, Option, Some, None, Result, Ok, Err, refl, arith, length-drop}
 use Rattle.std.specs.Prelude.{slice_get}
 use Rattle.std.specs.Option.{option_map}
@@ -31,7 +32,7 @@ use Rattle.fuse_answer.specs.Answers.{DecidesAt, IsAnswerAt}
 
 module _ (layers : List (List ℕ)) (layer : ℕ) (node : Node) (p : Place) (holds : HoldsData layers layer node p) where
   -- data are as many as the node says
-  data_long : length (data_of layers p) ≡ node.part.len
+  pub data_long : length (data_of layers p) ≡ node.part.len
   unfolding bytes_at
   data_long =
       let e = ap length (sym holds.data_is) ∙ length-take node.part.len (drop node.part.start holds.image) in
@@ -51,6 +52,14 @@ module _ (layers : List (List ℕ)) (layer : ℕ) (node : Node) (p : Place) (hol
       let d = length-drop offset (data_of layers p) in
       let left : node.part.len - offset ≡ length (drop offset (data_of layers p)) = omega arith in
       ap (λ n. take (min size n) (drop offset (data_of layers p))) left ∙ take_min size (drop offset (data_of layers p))
+
+  -- and are in the image of the layer where the node says
+  pub data_there : (image : List ℕ) → slice_get layers layer ≡ Some image
+      → bytes_at image node.part.start node.part.len ≡ data_of layers p
+  data_there image is =
+      let same : Some holds.image ≡ Some image = sym holds.is ∙ is in
+      let image_is : holds.image ≡ image = cc in
+      ap (λ a. bytes_at a node.part.start node.part.len) (sym image_is) ∙ holds.data_is
 
   module _ (offset len : ℕ) (within : offset + len ≤ node.part.len) where
     -- a part is as long as it says

@@ -39,13 +39,13 @@ pub(crate) struct Listing<'a, A: Allocator> {
 #[inline(always)]
 pub(crate) fn list<'a, A: Allocator>(
     table: &'a Table<A>,
-    agreed: Agreement,
     number: u64,
     offset: u64,
     size: u32,
     with_entries: bool,
 ) -> Result<Answer<'a, A>, Errno>
-    ensures { DecidesAt table.now agreed number (listing_op with_entries offset size) result }
+    ensures { (agreed : Agreement)
+        → DecidesAt table.now agreed number (listing_op with_entries offset size) result }
 {
     if kind_of(table, number)? != Kind::Directory {
         return Err(Errno::ENOTDIR);

@@ -18,10 +18,9 @@ use std::alloc::Allocator;
 #[inline(always)]
 pub(crate) fn get_attr<'a, A: Allocator>(
     table: &'a Table<A>,
-    agreed: Agreement,
     number: u64,
 ) -> Result<Answer<'a, A>, Errno>
-    ensures { DecidesAt table.now agreed number getattr result }
+    ensures { (agreed : Agreement) → DecidesAt table.now agreed number getattr result }
 {
     match table.attr(number) {
         Some(attr) => Ok(Answer::Attributes(attr)),
@@ -33,10 +32,9 @@ pub(crate) fn get_attr<'a, A: Allocator>(
 #[inline(always)]
 pub(crate) fn read_link<'a, A: Allocator>(
     table: &'a Table<A>,
-    agreed: Agreement,
     number: u64,
 ) -> Result<Answer<'a, A>, Errno>
-    ensures { DecidesAt table.now agreed number readlink result }
+    ensures { (agreed : Agreement) → DecidesAt table.now agreed number readlink result }
 {
     let Some(node) = table.node(number) else {
         return Err(Errno::ESTALE);
@@ -89,12 +87,11 @@ pub(crate) fn open_directory<'a, A: Allocator>(
 #[inline(always)]
 pub(crate) fn read<'a, A: Allocator>(
     table: &'a Table<A>,
-    agreed: Agreement,
     number: u64,
     offset: u64,
     size: u32,
 ) -> Result<Answer<'a, A>, Errno>
-    ensures { DecidesAt table.now agreed number (read offset size) result }
+    ensures { (agreed : Agreement) → DecidesAt table.now agreed number (read offset size) result }
 {
     let Some(node) = table.node(number) else {
         return Err(Errno::ESTALE);

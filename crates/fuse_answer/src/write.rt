@@ -19,7 +19,7 @@ use fuse_wire::{
     Replies, put_attr, put_data, put_entry, put_head, put_init, put_negative_entry, put_open,
     put_read, put_statfs, put_xattr_size,
 };
-use node_reader::{Node, Part, Table};
+use node_reader::{Node, Table};
 use std::alloc::{AllocError, Allocator};
 
 /// Appends the reply with an answer. Data in a file are read into it; if they cannot be read in
@@ -130,11 +130,14 @@ fn put_held<A: Allocator, O: Allocator>(
     let Some(view) = table.view(node.place.layer as usize) else {
         return put_data(out, unique, &[]);
     };
-    // no part ends beyond the maximum of a u32, since no image does
-    let _full = view.full();
-    let start = node.part.start + offset;
-    match view.part(Part { start, len }) {
-        Some(bytes) => put_data(out, unique, bytes),
-        None => put_read(out, unique, &view, u64::from(start), len as usize),
+    match view.part(node.part) {
+        Some(bytes) => {
+            let from = offset as usize;
+            put_data(out, unique, &bytes[from..from + len as usize])
+        }
+        None => {
+            let start = u64::from(node.part.start) + u64::from(offset);
+            put_read(out, unique, &view, start, len as usize)
+        }
     }
 }

@@ -3,7 +3,7 @@
 ghost use Rattle.std.specs.Prelude.{◌≡◌};
 ghost use Rattle.romfs_kept.specs.declared.fault.GatherFault.TheVariants.{Memory};
 
-use std::alloc::{AllocError, AllocFailed};
+use std::alloc::AllocError;
 
 /// Why nothing was kept of an image.
 #[derive(Clone, Copy, Debug, PartialEq, Eq)]
@@ -20,14 +20,6 @@ impl From<AllocError> for GatherFault {
     ghost from_gives = { λ _ fault. fault ≡ Memory };
 
     fn from(_error: AllocError) -> GatherFault {
-        GatherFault::Memory
-    }
-}
-
-impl<T: Drop> From<AllocFailed<T>> for GatherFault {
-    ghost from_gives = { λ _ fault. fault ≡ Memory };
-
-    fn from(_error: AllocFailed<T>) -> GatherFault {
         GatherFault::Memory
     }
 }

@@ -7,7 +7,7 @@
 ghost use Rattle.std.specs.Prelude.{◌≡◌, ◌+◌, ◌<◌, ◌≤◌, ◌↔◌, length, IsTrue, MatchOption};
 ghost use Rattle.romfs_format.specs.declared.limits.TheConstants.{HEAD_SIZE};
 ghost use Rattle.romfs_format.specs.declared.rule.Profile.TheVariants.{Usual};
-ghost use Rattle.romfs_format.specs.Fields.{data_at};
+ghost use Rattle.romfs_format.specs.Fields.{IsInside, data_at};
 ghost use Rattle.romfs_format.specs.Chains.{IsSomeMember};
 ghost use Rattle.romfs_format.specs.Links.{IsHardLink, EndsAs};
 ghost use Rattle.romfs_format.specs.Rules.{IsUsed, HasData, IsDevice, IsBadName, EndsOutside, HasLongTarget, HasLargeMajor};
@@ -95,8 +95,6 @@ impl<'h> Header<'h> {
             → IsFirstRuleBelow profile self.now.image self.now.at
             (rule_number Rule.LinkedTwice) result }
     {
-        // reads a field, by which the proof knows what holds of a header
-        let _ = &self.volume;
         if self.breaks_name_open() {
             return Some(Rule::NameOpen);
         }
@@ -135,9 +133,10 @@ impl<'h> Header<'h> {
         None
     }
 
-    // Whether its name is not ended.
+    // Whether its name is not ended. The header is inside the image.
     fn breaks_name_open(&self) -> bool
-        ensures { IsTrue result ↔ BreaksHeader Usual self.now.image Rule.NameOpen self.now.at }
+        ensures inside { IsInside self.now.image self.now.at }
+        ensures open { IsTrue result ↔ BreaksHeader Usual self.now.image Rule.NameOpen self.now.at }
     {
         self.at != self.volume.root && self.name.is_none()
     }

@@ -13,7 +13,7 @@ use crate::filling::BLOCK;
 use crate::sealed::Sealed;
 use crate::{Digest, descriptor_of};
 use devices::{Algorithm, Unread};
-use std::alloc::{AllocError, AllocFailed, Allocator};
+use std::alloc::{AllocError, Allocator};
 
 /// The size that no file reaches.
 const TOO_LARGE: u64 = 1 << 63;
@@ -35,14 +35,6 @@ impl From<AllocError> for SealFault {
     ghost from_gives = { λ _ fault. fault ≡ Memory };
 
     fn from(_error: AllocError) -> SealFault {
-        SealFault::Memory
-    }
-}
-
-impl<T: Drop> From<AllocFailed<T>> for SealFault {
-    ghost from_gives = { λ _ fault. fault ≡ Memory };
-
-    fn from(_error: AllocFailed<T>) -> SealFault {
         SealFault::Memory
     }
 }

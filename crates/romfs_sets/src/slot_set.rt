@@ -99,7 +99,8 @@ impl<A: Allocator> SlotSet<A> {
     /// The first slot from a slot on that is in this set or in another; none if none is.
     pub fn next_of_either(&self, other: &SlotSet<A>, from: usize) -> Option<usize>
         requires { length other.now ≡ length self.now }
-        ensures { IsNextOfEither self.now other.now from result }
+        ensures next { IsNextOfEither self.now other.now from result }
+        ensures small { length self.now < 2 ^ 32 }
     {
         let mut slot = from;
         while slot < self.slots {
@@ -124,8 +125,6 @@ impl<A: Allocator> SlotSet<A> {
         ensures next { IsNextSlot self.now from result }
         ensures small { length self.now < 2 ^ 32 }
     {
-        // reads a field, by which the proof knows what holds of the set
-        let _ = &self.words;
         self.next_of_either(self, from)
     }
 }

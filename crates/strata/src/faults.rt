@@ -9,7 +9,7 @@ ghost use Rattle.strata.specs.Texts.{fault_text, stop_text};
 use arrayvec::ArrayString;
 use devices::Failed;
 use serve_core::StreamFault;
-use std::alloc::{AllocError, AllocFailed};
+use std::alloc::AllocError;
 use std::fmt::Write as _;
 use std::io::Write;
 use std::{fmt, io};
@@ -225,16 +225,6 @@ impl From<AllocError> for Fault {
     ghost from_gives = { λ _ fault. fault ≡ out_of_memory };
 
     fn from(_error: AllocError) -> Fault {
-        Fault::Stopped(StreamFault::Memory)
-    }
-}
-
-impl<T: Drop> From<AllocFailed<T>> for Fault {
-    ghost use Rattle.strata.specs.Faults.{out_of_memory};
-
-    ghost from_gives = { λ _ fault. fault ≡ out_of_memory };
-
-    fn from(_error: AllocFailed<T>) -> Fault {
         Fault::Stopped(StreamFault::Memory)
     }
 }

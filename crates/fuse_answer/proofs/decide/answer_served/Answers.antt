@@ -11,11 +11,11 @@ returns-in-Lookup g c =
 
 pub returns-in-Getattr : goal.returns-in-Getattr
 returns-in-Getattr g c = decided_at c.args.table.now c.args.agreed (asked_of c.args.request.now) getattr (ap op_said c.in-Getattr.is)
-    c.requires c.get_attr.result c.get_attr.ensures
+    c.requires c.get_attr.result (c.get_attr.ensures c.args.agreed)
 
 pub returns-in-Readlink : goal.returns-in-Readlink
 returns-in-Readlink g c = decided_at c.args.table.now c.args.agreed (asked_of c.args.request.now) readlink (ap op_said c.in-Readlink.is)
-    c.requires c.read_link.result c.read_link.ensures
+    c.requires c.read_link.result (c.read_link.ensures c.args.agreed)
 
 pub returns-in-Open : goal.returns-in-Open
 returns-in-Open g c =
@@ -25,7 +25,7 @@ returns-in-Open g c =
 pub returns-in-Read : goal.returns-in-Read
 returns-in-Read g c =
     decided_at c.args.table.now c.args.agreed (asked_of c.args.request.now) (read c.in-Read.offset c.in-Read.size) (ap op_said c.in-Read.is)
-    c.requires c.read.result c.read.ensures
+    c.requires c.read.result (c.read.ensures c.args.agreed)
 
 pub returns-in-Opendir : goal.returns-in-Opendir
 returns-in-Opendir g c = decided_at c.args.table.now c.args.agreed (asked_of c.args.request.now) opendir (ap op_said c.in-Opendir.is)
@@ -34,12 +34,12 @@ returns-in-Opendir g c = decided_at c.args.table.now c.args.agreed (asked_of c.a
 pub returns-in-Readdir : goal.returns-in-Readdir
 returns-in-Readdir g c =
     decided_at c.args.table.now c.args.agreed (asked_of c.args.request.now) (readdir c.in-Readdir.offset c.in-Readdir.size)
-    (ap op_said c.in-Readdir.is) c.requires c.list.result c.list.ensures
+    (ap op_said c.in-Readdir.is) c.requires c.list.result (c.list.ensures c.args.agreed)
 
 pub returns-in-Readdirplus : goal.returns-in-Readdirplus
 returns-in-Readdirplus g c =
     decided_at c.args.table.now c.args.agreed (asked_of c.args.request.now) (readdirplus c.in-Readdirplus.offset c.in-Readdirplus.size)
-    (ap op_said c.in-Readdirplus.is) c.requires c.list-in-Readdirplus.result c.list-in-Readdirplus.ensures
+    (ap op_said c.in-Readdirplus.is) c.requires c.list-in-Readdirplus.result (c.list-in-Readdirplus.ensures c.args.agreed)
 
 pub returns-in-Getxattr : goal.returns-in-Getxattr
 returns-in-Getxattr g c =

@@ -10,7 +10,7 @@ note_named-found-requires g c = root_slot c.args.volume.now.bytes.now c.args.vol
 
 pub note_named-found-requires-in-Some : goal.note_named-found-requires-in-Some
 note_named-found-requires-in-Some g c =
-    let n = c.in-Some.ensures in
+    let n = c.in-Some.ensures.next in
     slot_behind c.args.volume.now.bytes.now c.args.chains.now.headers c.loop-slot.from c.in-Some.slot
     c.requires.chains.headers.sized c.loop-slot.invariant.behind n.low n.high
 
@@ -40,7 +40,7 @@ pub loop-slot-preserved : goal.loop-slot-preserved
 loop-slot-preserved g c =
     let a = c.args.volume.now.bytes.now in
     let slot = c.in-Some.slot in
-    let n = c.in-Some.ensures in
+    let n = c.in-Some.ensures.next in
     let l = n.low in
     let h = n.high in
     let s = c.requires.chains.headers.sized in
@@ -68,8 +68,8 @@ returns g c =
     let s = c.requires.chains.headers.sized in
     let b = c.loop-slot.invariant.behind in
     let l = c.loop-slot.invariant.low in
-    let chains = clear_gap c.requires.chains.headers l c.in_default.ensures.0 in
-    let targets = clear_gap c.requires.targets l c.in_default.ensures.1 in
+    let chains = clear_gap c.requires.chains.headers l c.in_default.ensures.next.0 in
+    let targets = clear_gap c.requires.targets l c.in_default.ensures.next.1 in
     let all : (Q : ℕ → Type 0) → (found : Option ℕ) → IsFoundBefore a Q c.loop-slot.from found
     → IsFoundBefore a Q (length headers) found = λ Q found f. scanned_to a Q found b chains targets f in
     record {

@@ -27,37 +27,37 @@ module _ (profile : Profile) (a : List ℕ) (h : ℕ) (i : IsInside a h) where
 pub returns-then-breaks_name_open : goal.returns-then-breaks_name_open
 returns-then-breaks_name_open c = λ profile.
     first_broken profile _ _ NameOpen 7 refl (lit≤ tt, lit< tt)
-    (none_tried profile _ _ (rw (← c.self.view_is) c.self.invariant.asked.slot.inside))
-    (c.breaks_name_open.ensures.0 c.if-breaks_name_open.true)
+    (none_tried profile _ _ c.breaks_name_open.ensures.inside)
+    (c.breaks_name_open.ensures.open.0 c.if-breaks_name_open.true)
 
 pub returns-then-breaks_name_bad : goal.returns-then-breaks_name_bad
 returns-then-breaks_name_bad c = λ profile.
     first_broken profile _ _ NameBad 8 refl (lit≤ tt, lit< tt)
-    (name_ended profile _ _ (rw (← c.self.view_is) c.self.invariant.asked.slot.inside)
-    (fails c.breaks_name_open.ensures c.if-breaks_name_open.false))
+    (name_ended profile _ _ c.breaks_name_open.ensures.inside
+    (fails c.breaks_name_open.ensures.open c.if-breaks_name_open.false))
     (c.breaks_name_bad.ensures.0 c.if-breaks_name_bad.true)
 
 pub returns-then-breaks_data_outside : goal.returns-then-breaks_data_outside
 returns-then-breaks_data_outside c = λ profile.
     first_broken profile _ _ DataOutside 9 refl (lit≤ tt, lit< tt)
-    (name_good profile _ _ (rw (← c.self.view_is) c.self.invariant.asked.slot.inside)
-    (fails c.breaks_name_open.ensures c.if-breaks_name_open.false)
+    (name_good profile _ _ c.breaks_name_open.ensures.inside
+    (fails c.breaks_name_open.ensures.open c.if-breaks_name_open.false)
     (fails c.breaks_name_bad.ensures c.if-breaks_name_bad.false))
     (c.breaks_data_outside.ensures.0 c.if-breaks_data_outside.true)
 
 pub returns-then-breaks_target_long : goal.returns-then-breaks_target_long
 returns-then-breaks_target_long c = λ profile.
     first_broken profile _ _ TargetLong 10 refl (lit≤ tt, lit< tt)
-    (data_inside profile _ _ (rw (← c.self.view_is) c.self.invariant.asked.slot.inside)
-    (fails c.breaks_name_open.ensures c.if-breaks_name_open.false)
+    (data_inside profile _ _ c.breaks_name_open.ensures.inside
+    (fails c.breaks_name_open.ensures.open c.if-breaks_name_open.false)
     (fails c.breaks_name_bad.ensures c.if-breaks_name_bad.false)
     (fails c.breaks_data_outside.ensures c.if-breaks_data_outside.false))
     (c.breaks_target_long.ensures.0 c.if-breaks_target_long.true)
 
 pub returns : goal.returns
 returns c = λ profile.
-    target_short profile _ _ (rw (← c.self.view_is) c.self.invariant.asked.slot.inside)
-    (fails c.breaks_name_open.ensures c.if-breaks_name_open.false)
+    target_short profile _ _ c.breaks_name_open.ensures.inside
+    (fails c.breaks_name_open.ensures.open c.if-breaks_name_open.false)
     (fails c.breaks_name_bad.ensures c.if-breaks_name_bad.false)
     (fails c.breaks_data_outside.ensures c.if-breaks_data_outside.false)
     (fails c.breaks_target_long.ensures c.if-breaks_target_long.false)

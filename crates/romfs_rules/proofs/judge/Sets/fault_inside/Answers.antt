@@ -37,7 +37,7 @@ next : (g : Over) (c : In-Some-next_of_either g)
 next g c =
     let l = rw (← c.self.view_is) at c.loop-slot.invariant in
     rw (← c.self.view_is) (asked_next c.args.profile _ c.self.inside.volume.now.keeps c.self.invariant.chains.headers
-    c.self.invariant.targets l.behind l.keeps c.in-Some-next_of_either.ensures)
+    c.self.invariant.targets l.behind l.keeps c.in-Some-next_of_either.ensures.next)
 
 pub header-requires-in-Some-next_of_either : goal.header-requires-in-Some-next_of_either
 header-requires-in-Some-next_of_either g c = (next g c).0
@@ -54,8 +54,8 @@ loop-slot-preserved g c =
     let e = c.header-in-Some-next_of_either.ensures in
     let n = next g (goal.at.loop-slot-preserved g c).In-Some-next_of_either in
     let l = c.loop-slot.invariant.behind in
-    let low = c.in-Some-next_of_either.ensures.low in
-    let high = c.in-Some-next_of_either.ensures.high in
+    let low = c.in-Some-next_of_either.ensures.next.low in
+    let high = c.in-Some-next_of_either.ensures.next.high in
     record {
       behind = omega arith;
       low = omega arith;
@@ -67,7 +67,7 @@ pub returns : goal.returns
 returns g c =
     let l = rw (← c.self.view_is) at c.loop-slot.invariant in
     let headers = c.self.inside.chains.now.headers in
-    let d = c.in_default-next_of_either.ensures in
+    let d = c.in_default-next_of_either.ensures.next in
     let s = c.self.invariant.chains.headers.sized in
     let v = c.self.inside.volume.now.keeps in
     rw (← c.self.view_is) (scan_all c.args.profile _ v (length headers) (omega arith)

@@ -1,6 +1,6 @@
 use Rattle.std.proofs.Common.{◌≡◌, ◌/◌, ◌<◌, List, ℕ, arith, refl, length, bit_or, rules}
 use Rattle.romfs_sets.specs.Sets.{bits}
-use Rattle.romfs_sets.proofs.Bits.{joined, joined_read, same_slots, rest, none_left, low_from, low_is, low_first, clear_more, next_in, none_in}
+use Rattle.romfs_sets.proofs.Bits.{joined, joined_read, same_slots, small, rest, none_left, low_from, low_is, low_first, clear_more, next_in, none_in}
 use Rattle.romfs_sets.proofs.slot_set.SlotSet.next_of_either.Given.{Over}
 use Rattle.romfs_sets.proofs.slot_set.SlotSet.next_of_either.Goals.{In-loop-slot}
 use Rattle.romfs_sets.proofs.slot_set.SlotSet.next_of_either.Goals as goal
@@ -42,10 +42,13 @@ returns-then-found-self g c =
     let h = low.0 in
     let l = low.1 in
     let from = c.loop-slot.invariant.low in
-    rw (← c.self.view_is, ← at.2)
-    (next_in n (length one) one other c.self.invariant.0 c.args.from _ (omega arith) c.if-found-self.true
-    (low_is (both one other) slot _ word some _ refl) (clear_more (both one other) c.args.from slot _
-    c.loop-slot.invariant.clear (low_first (both one other) slot _ word some _ refl)))
+    record {
+      next = rw (← c.self.view_is, ← at.2)
+          (next_in n (length one) one other c.self.invariant.0 c.args.from _ (omega arith) c.if-found-self.true
+          (low_is (both one other) slot _ word some _ refl) (clear_more (both one other) c.args.from slot _
+          c.loop-slot.invariant.clear (low_first (both one other) slot _ word some _ refl)));
+      small = rw (← c.self.view_is) (small c.self.inside.slots c.self.inside.words.items c.self.invariant.1);
+    }
 
 pub returns-else-found-self : goal.returns-else-found-self
 returns-else-found-self g c =
@@ -57,9 +60,12 @@ returns-else-found-self g c =
     let word = joined_read one other _ _ _ at.0 at.1 c.index.ensures c.index-in-loop-slot.ensures in
     let some : 0 < rest (bit_or c.index.result.now c.index-in-loop-slot.result.now) slot = let t = c.if-word-ne0.true in search rules in
     let far = c.if-found-self.false in
-    rw (← c.self.view_is, ← at.2)
-    (none_in n (length one) one other c.self.invariant.0 c.args.from (λ k l m. clear_more (both one other) c.args.from slot _
-    c.loop-slot.invariant.clear (low_first (both one other) slot _ word some _ refl) k l (omega arith)))
+    record {
+      next = rw (← c.self.view_is, ← at.2)
+          (none_in n (length one) one other c.self.invariant.0 c.args.from (λ k l m. clear_more (both one other) c.args.from slot _
+          c.loop-slot.invariant.clear (low_first (both one other) slot _ word some _ refl) k l (omega arith)));
+      small = rw (← c.self.view_is) (small c.self.inside.slots c.self.inside.words.items c.self.invariant.1);
+    }
 
 pub loop-slot-preserved : goal.loop-slot-preserved
 loop-slot-preserved g c =
@@ -82,5 +88,8 @@ returns g c =
     let other = c.other.inside.words.items in
     let same = same_slots n _ one other _ _ c.self.view_is c.other.view_is c.requires in
     let past = c.loop-slot-test.false in
-    rw (← c.self.view_is, ← same.1)
-    (none_in n (length one) one other c.self.invariant.0 c.args.from (λ k l m. c.loop-slot.invariant.clear k l (omega arith)))
+    record {
+      next = rw (← c.self.view_is, ← same.1)
+          (none_in n (length one) one other c.self.invariant.0 c.args.from (λ k l m. c.loop-slot.invariant.clear k l (omega arith)));
+      small = rw (← c.self.view_is) (small c.self.inside.slots c.self.inside.words.items c.self.invariant.1);
+    }
