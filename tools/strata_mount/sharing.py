@@ -197,12 +197,13 @@ def is_serving(note, row):
 
 
 def has_failed(process):
-    """Whether the standard input of a process has failed; not where that may not be asked."""
+    """Whether the standard input of a process has failed, or is closed; not where that may not be
+    asked."""
     import select
     try:
         number = call(PIDFD_GETFD, c_ulong(process), c_ulong(0), c_ulong(0))
-    except OSError:
-        return False
+    except OSError as fault:
+        return fault.errno not in (errno.EPERM, errno.ENOSYS)
     try:
         asked = select.poll()
         asked.register(number, 0)
