@@ -185,7 +185,9 @@ def mistaken(room):
     os.kill(server, signal.SIGCONT)
     umount_all(room)
     hold_at_one_moment(room, first, second)
-    return "a number that is given anew%s; two stacks at one folder" % ("" if is_same else " (left out: it was not)")
+    hold_led_elsewhere(room, first, second)
+    return "a number that is given anew%s; two stacks at one folder; another file by the same name" % (
+        "" if is_same else " (left out: it was not)")
 
 
 def umount_all(room):
@@ -212,6 +214,17 @@ def hold_at_one_moment(room, first, second):
         hold("the first one", ("", 0), (late.communicate()[1], late.returncode))
     for words, image, text in ((("--strata", slow), first, b"1"), ((), second, b"2")):
         hold("a file of %s" % text, text, open_and_read(share(room, [image], *words) + "/x"))
+    umount_all(room)
+
+
+def hold_led_elsewhere(room, first, second):
+    """Holds that a mount is not shared whose server has opened another file than was asked for: a link may lead there
+    and back again meanwhile."""
+    other = room.write(("#!/bin/sh\nexec %s serve --device --attributes %s\n" % (room.program, second)).encode())
+    os.chmod(other, 0o755)
+    for count in (1, 2):
+        hold("what it shows", b"2", open_and_read(share(room, [first], "--strata", other) + "/x"))
+        hold("servers", count, len(alive()))
     umount_all(room)
 
 
