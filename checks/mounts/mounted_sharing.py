@@ -321,6 +321,12 @@ def printed_to_user(room, image):
     hold("a folder of their own", (1, True), (bound.returncode, "--share --print" in bound.stderr))
     hold("fusermount3 -u", 0, subprocess.run(["fusermount3", "-u", at], **who).returncode)
     wait_until("all servers' end", lambda: not alive())
+    link = room.folder + "/link"
+    os.symlink(runtime, link)
+    who["env"]["XDG_RUNTIME_DIR"] = link + "/"
+    refused = subprocess.run([*words, "--share", "--print", image], **who)
+    hold("a link", (1, True), (refused.returncode, link + ": is a symbolic link" in refused.stderr))
+    who["env"]["XDG_RUNTIME_DIR"] = runtime
     os.chmod(runtime, 0o777)
     refused = subprocess.run([*words, "--share", "--print", image], **who)
     hold("a folder in which all may write", 1, refused.returncode)

@@ -22,7 +22,8 @@ def runtime_folder():
     the user's own."""
     if os.stat("/run").st_uid == os.geteuid():
         return "/run"
-    said = os.environ.get("XDG_RUNTIME_DIR", "")
+    # a link with a slash behind it would be followed
+    said = os.environ.get("XDG_RUNTIME_DIR", "").rstrip("/")
     return said if os.path.isabs(said) else "/run/user/%d" % os.geteuid()
 
 
@@ -61,9 +62,9 @@ def opened_notes(makes=True):
     except OSError as fault:
         if fault.errno == 0:
             raise
-        is_link = fault.errno in (errno.ELOOP, errno.ENOTDIR)
-        what = "is a symbolic link" if is_link else fault.strerror
         where = top if above is None else place
+        is_link = fault.errno in (errno.ELOOP, errno.ENOTDIR) and os.path.islink(where)
+        what = "is a symbolic link" if is_link else fault.strerror
         other = SET_ANOTHER * (above is None and top != "/run")
         raise OSError(0, "%s; shared mounts are noted there%s" % (what, other), where) from None
     finally:
