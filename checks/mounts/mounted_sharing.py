@@ -9,6 +9,7 @@ import shutil
 import signal
 import socket
 import subprocess
+import sys
 import time
 
 from checks.mounts.mounted_ends import OTHER, as_other, open_to_all, python_of
@@ -27,6 +28,16 @@ ENDS = {"stdin": subprocess.DEVNULL, "stdout": subprocess.PIPE, "stderr": subpro
         "text": True}
 # a program that serves once a file is there
 SLOW = "#!/bin/sh\nuntil [ -e %s/go ]; do sleep 0.02; done\nexec %s \"$@\"\n"
+# runs mount.py where no thread can be started
+NO_THREADS = """
+import sys, _thread
+sys.path.insert(0, %r)
+def refused(*_):
+    raise RuntimeError
+_thread.start_new_thread = refused
+from strata_mount.command import main
+sys.exit(main(%r, "mount.py"))
+"""
 ENDED = os.WEXITED | os.WNOHANG | os.WNOWAIT
 
 
@@ -226,6 +237,26 @@ def hold_led_elsewhere(room, first, second):
         hold("what it shows", b"2", open_and_read(share(room, [first], "--strata", other) + "/x"))
         hold("servers", count, len(alive()))
     umount_all(room)
+
+
+def unnoted(room):
+    """Where a mount can't be noted, or no thread is to be had, that is said, and no mount is left."""
+    own_runtime()
+    image, at = room.layer(items_of(b"data")), room.place()
+    os.mkdir("/run/strata", 0o700)
+    called(libc.mount(b"tmpfs", b"/run/strata", b"tmpfs", 0, b"mode=700,size=4096"))
+    with open("/run/strata/full", "wb") as out:
+        out.write(bytes(4096))
+    for words in ((at,), ("--print",)):
+        status, _, told = run(room, "--share", image, *words)
+        hold("a full disk", (1, True), (status, told.endswith(": No space left on device\n") and told.startswith("mount.py: /run/strata/")))
+        hold("what is left", (set(), []), (alive(), [it for it in places() if it.startswith((room.folder, "/run/strata/"))]))
+    umount("/run/strata")
+    script = NO_THREADS % (os.path.dirname(SCRIPT), ["--background", "--strata", room.program, image, at])
+    done = subprocess.run([sys.executable, "-B", "-c", script], **ENDS)
+    hold("without threads", (1, "mount.py: Resource temporarily unavailable\n"), (done.returncode, done.stderr))
+    hold("what is left", (set(), False), (alive(), at in places()))
+    return "a full disk, and no thread: a line, and no mount left"
 
 
 def note_of(device):
@@ -558,4 +589,4 @@ def hold_of_another(room, image, to_run, to_pass):
         wait_until("the server's end", lambda: not alive())
 
 
-CHECKS = (sharing, raced, mistaken, spaces, revived, printed, strangers, occupied, listed, privileges)
+CHECKS = (sharing, raced, mistaken, spaces, unnoted, revived, printed, strangers, occupied, listed, privileges)

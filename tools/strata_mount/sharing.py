@@ -138,11 +138,14 @@ class Note:
         return any(line.split()[3:] not in ([], [processes()]) for line in self.lines())
 
     def add(self, device, server):
-        """Notes a mount beside those whose servers are there."""
+        """Notes a mount beside those whose servers are there; OSError, with the path, if that can't be."""
         rows = [*self.live(), (device, server)]
         os.ftruncate(self.file, 0)
         text = "".join("%s %d %s %s\n" % (it, number, start_of(number), processes()) for it, number in rows)
-        os.pwrite(self.file, text.encode(), 0)
+        try:
+            os.pwrite(self.file, text.encode(), 0)
+        except OSError as fault:
+            raise OSError(fault.errno, fault.strerror, os.readlink("/proc/self/fd/%d" % self.file)) from None
 
     def close(self):
         os.close(self.file)
