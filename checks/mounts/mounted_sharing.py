@@ -23,6 +23,7 @@ from strata_mount.sharing import processes
 SECOND = 1.0
 # of a process, what proc(5) says of its capabilities
 CAPABILITIES = ("CapInh", "CapPrm", "CapEff", "CapAmb")
+TRIES = 8
 OVERRIDE, READ_SEARCH = 1 << 1, 1 << 2
 ENDS = {"stdin": subprocess.DEVNULL, "stdout": subprocess.PIPE, "stderr": subprocess.PIPE,
         "text": True}
@@ -36,6 +37,22 @@ def refused(*_):
     raise RuntimeError
 _thread.start_new_thread = refused
 from strata_mount.command import main
+sys.exit(main(%r, "mount.py"))
+"""
+# runs mount.py, and turns a link from one image to another before the server begins, and back once the mount answers
+LED_ELSEWHERE = """
+import os, sys
+sys.path.insert(0, %r)
+from strata_mount import mounting
+from strata_mount.command import main
+confinement_of, waited = mounting.confinement_of, mounting.waited
+first, second, link = %r, %r, %r
+def led(image, found):
+    os.symlink(image, link + "-")
+    os.rename(link + "-", link)
+    return found
+mounting.confinement_of = lambda *words: led(second, None) or confinement_of(*words)
+mounting.waited = lambda *words: led(first, waited(*words))
 sys.exit(main(%r, "mount.py"))
 """
 ENDED = os.WEXITED | os.WNOHANG | os.WNOWAIT
@@ -185,20 +202,26 @@ def mistaken(room):
     whose server is about to end, nor where two stacks were mounted at one folder at one moment."""
     own_runtime()
     first, second = (room.layer(items_of(text)) for text in (b"1", b"2"))
-    at = share(room, [first])
-    server, number = children().pop(), device_of(at)
-    os.kill(server, signal.SIGSTOP)
-    umount(at)
-    other = share(room, [second])
-    is_same = device_of(other) == number
-    hold("a file, with a server that has not ended", b"1", open_and_read(share(room, [first]) + "/x"))
-    hold("servers", 3, len(children()))
-    os.kill(server, signal.SIGCONT)
-    umount_all(room)
+    # another process may get the number before
+    is_same = any(hold_given_anew(room, first, second) for _ in range(TRIES))
     hold_at_one_moment(room, first, second)
     hold_led_elsewhere(room, first, second)
     return "a number that is given anew%s; two stacks at one folder; another file by the same name" % (
         "" if is_same else " (left out: it was not)")
+
+
+def hold_given_anew(room, first, second):
+    """Holds what is shown once the number of a mount's device was given anew, while its server is there; whether it was."""
+    at = share(room, [first])
+    server, number = children().pop(), device_of(at)
+    os.kill(server, signal.SIGSTOP)
+    umount(at)
+    is_same = device_of(share(room, [second])) == number
+    hold("a file, with a server that has not ended", b"1", open_and_read(share(room, [first]) + "/x"))
+    hold("servers", 3, len(children()))
+    os.kill(server, signal.SIGCONT)
+    umount_all(room)
+    return is_same
 
 
 def umount_all(room):
@@ -229,13 +252,14 @@ def hold_at_one_moment(room, first, second):
 
 
 def hold_led_elsewhere(room, first, second):
-    """Holds that a mount is not shared whose server has opened another file than was asked for: a link may lead there
+    """Holds that a mount is not shared as that of an image whose server has opened another file, since a link led there
     and back again meanwhile."""
-    other = room.write(("#!/bin/sh\nexec %s serve --device --attributes %s\n" % (room.program, second)).encode())
-    os.chmod(other, 0o755)
-    for count in (1, 2):
-        hold("what it shows", b"2", open_and_read(share(room, [first], "--strata", other) + "/x"))
-        hold("servers", count, len(alive()))
+    link, at = room.folder + "/link", room.place()
+    os.symlink(first, link)
+    script = LED_ELSEWHERE % (os.path.dirname(SCRIPT), first, second, link, ["--share", "--strata", room.program, link, at])
+    done = subprocess.run([sys.executable, "-B", "-c", script], **ENDS)
+    hold("the link's mount", (0, "", b"2"), (done.returncode, done.stderr, open_and_read(at + "/x")))
+    hold("a file", b"1", open_and_read(share(room, [first]) + "/x"))
     umount_all(room)
 
 

@@ -22,6 +22,7 @@ from strata_mount.device import flags_of, take_away
 from strata_mount.landlock import call
 from strata_mount.mount_table import KIND, mounts
 from strata_mount.preconditions import hold_images
+from strata_mount.privileges import is_elf
 from strata_mount.runtime import bind, opened_notes, start_of
 
 NOTE = os.O_RDWR | os.O_CREAT | os.O_NOFOLLOW | os.O_CLOEXEC
@@ -338,8 +339,8 @@ def noted(plan, note, identity, server, before):
 
 def has_open(plan, process, files):
     """Whether a server has these files open, so that no image's path led elsewhere meanwhile and back
-    again; so also where it keeps none open, or where that may not be seen."""
-    if plan.whole:
+    again; so also where it keeps none open, or where that may not be seen, as of a script's."""
+    if plan.whole or not is_elf(plan.program):
         return True
     folder = "/proc/%d/fd" % process
     try:
