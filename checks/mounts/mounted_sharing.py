@@ -264,7 +264,7 @@ def hold_led_elsewhere(room, first, second):
 
 
 def unnoted(room):
-    """Where a mount can't be noted, or no thread is to be had, that is said, and no mount is left."""
+    """Where a mount can't be noted, or no thread can be started, a line says so, and no mount is left."""
     own_runtime()
     image, at = room.layer(items_of(b"data")), room.place()
     os.mkdir("/run/strata", 0o700)

@@ -196,7 +196,7 @@ def run(plan, counts=None, heard=None):
             if status == 0 and plan.background and heard is not None:
                 heard(server)
         except BaseException:
-            # who is told of a fault has no mount
+            # a fault leaves no mount
             server.send(signal.SIGTERM)
             server.wait()
             raise
