@@ -10,6 +10,9 @@ if interrupted is signal.default_int_handler:
 import os
 import sys
 
+# OpenSSL, from which only hashes are taken, would run what these name
+for name in ("OPENSSL_CONF", "OPENSSL_MODULES", "OPENSSL_ENGINES"):
+    os.environ.pop(name, None)
 HERE = os.path.dirname(os.path.dirname(os.path.realpath(__file__)))
 sys.path.insert(0, os.path.join(HERE, "lib", "strata"))
 from @MODULE@ import main

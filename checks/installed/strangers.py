@@ -80,6 +80,8 @@ def plant(folder):
         with open(os.path.join(folder, name), "w", encoding="ascii") as out:
             out.write("#!/bin/sh\necho %s >> %s\n" % (name, PLANTED))
             os.fchmod(out.fileno(), 0o755)
+    # who opens it waits for ever
+    os.mkfifo(folder + "/openssl.cnf")
     for place in (folder, folder + "/sbin"):
         os.makedirs(place, exist_ok=True)
         os.symlink(HELPER, place + "/mount.strata")
@@ -93,7 +95,8 @@ def surroundings(root):
     named = {name: folder for name in ("PYTHONPATH", "PYTHONHOME", "PYTHONUSERBASE", "HOME", "TMPDIR", "XDG_DATA_HOME")}
     odd = {"PATH": folder + ":/usr/bin", "PYTHONSTARTUP": folder + "/os.py", "PYTHONINSPECT": "1", "PYTHONMALLOC": "odd", "IFS": "/",
            "PYTHONIOENCODING": "rot13", "PYTHONUTF8": "x", "LANG": "xx", "LC_ALL": "xx_YY", "BASH_ENV": folder + "/sh",
-           "_FUSE_COMMFD": "3", "PYTHONEXECUTABLE": folder + "/python3", "__PYVENV_LAUNCHER__": folder + "/python3", **named}
+           "OPENSSL_CONF": folder + "/openssl.cnf", "_FUSE_COMMFD": "3", "PYTHONEXECUTABLE": folder + "/python3",
+           "__PYVENV_LAUNCHER__": folder + "/python3", **named}
     for helper in (HELPER, "./mount.strata", "sbin/mount.strata"):
         for mask in (0, 0o777):
             done = root.run(helper, STACK, PLACE, cwd=folder, env=odd, umask=mask)
@@ -103,7 +106,7 @@ def surroundings(root):
         held_refused(root, helper, NOT_MOUNTED, "no such file", helper, "/none", PLACE, cwd=folder, env=odd)
     for words in (("strata-mount", "--background", LOWER, PLACE), ("strata-mount", "--share", "--replace", LOWER, PLACE),
                   ("strata-layers", "image", "/usr/local/lib/strata", "/srv/image.romfs"), ("strata-layers", "seal", LOWER)):
-        hold(words[0], 0, root.run("/usr/local/bin/" + words[0], *words[1:], cwd=folder, env=odd).status)
+        hold(words[0], 0, root.run("/usr/local/bin/" + words[0], *words[1:], cwd=folder, env=odd, timeout=SECONDS).status)
     taken_away(root)
     hold("what was planted", False, os.path.exists(PLANTED))
     hold("strata-mount", 0, root.run("strata-mount", "--background", LOWER, PLACE, env=dict(os.environ, SECRET="1")).status)

@@ -9,6 +9,7 @@ import shutil
 import signal
 import socket
 import subprocess
+import sys
 import time
 
 from checks.mounts.mounted_ends import OTHER, as_other, open_to_all, python_of
@@ -22,11 +23,38 @@ from strata_mount.sharing import processes
 SECOND = 1.0
 # of a process, what proc(5) says of its capabilities
 CAPABILITIES = ("CapInh", "CapPrm", "CapEff", "CapAmb")
+TRIES = 8
 OVERRIDE, READ_SEARCH = 1 << 1, 1 << 2
 ENDS = {"stdin": subprocess.DEVNULL, "stdout": subprocess.PIPE, "stderr": subprocess.PIPE,
         "text": True}
 # a program that serves once a file is there
 SLOW = "#!/bin/sh\nuntil [ -e %s/go ]; do sleep 0.02; done\nexec %s \"$@\"\n"
+# runs mount.py where no thread can be started
+NO_THREADS = """
+import sys, _thread
+sys.path.insert(0, %r)
+def refused(*_):
+    raise RuntimeError
+_thread.start_new_thread = refused
+from strata_mount.command import main
+sys.exit(main(%r, "mount.py"))
+"""
+# runs mount.py, and turns a link from one image to another before the server begins, and back once the mount answers
+LED_ELSEWHERE = """
+import os, sys
+sys.path.insert(0, %r)
+from strata_mount import mounting
+from strata_mount.command import main
+confinement_of, waited = mounting.confinement_of, mounting.waited
+first, second, link = %r, %r, %r
+def led(image, found):
+    os.symlink(image, link + "-")
+    os.rename(link + "-", link)
+    return found
+mounting.confinement_of = lambda *words: led(second, None) or confinement_of(*words)
+mounting.waited = lambda *words: led(first, waited(*words))
+sys.exit(main(%r, "mount.py"))
+"""
 ENDED = os.WEXITED | os.WNOHANG | os.WNOWAIT
 
 
@@ -174,18 +202,26 @@ def mistaken(room):
     whose server is about to end, nor where two stacks were mounted at one folder at one moment."""
     own_runtime()
     first, second = (room.layer(items_of(text)) for text in (b"1", b"2"))
+    # another process may get the number before
+    is_same = any(hold_given_anew(room, first, second) for _ in range(TRIES))
+    hold_at_one_moment(room, first, second)
+    hold_led_elsewhere(room, first, second)
+    return "a number that is given anew%s; two stacks at one folder; another file by the same name" % (
+        "" if is_same else " (left out: it was not)")
+
+
+def hold_given_anew(room, first, second):
+    """Holds what is shown once the number of a mount's device was given anew, while its server is there; whether it was."""
     at = share(room, [first])
     server, number = children().pop(), device_of(at)
     os.kill(server, signal.SIGSTOP)
     umount(at)
-    other = share(room, [second])
-    is_same = device_of(other) == number
+    is_same = device_of(share(room, [second])) == number
     hold("a file, with a server that has not ended", b"1", open_and_read(share(room, [first]) + "/x"))
     hold("servers", 3, len(children()))
     os.kill(server, signal.SIGCONT)
     umount_all(room)
-    hold_at_one_moment(room, first, second)
-    return "a number that is given anew%s; two stacks at one folder" % ("" if is_same else " (left out: it was not)")
+    return is_same
 
 
 def umount_all(room):
@@ -213,6 +249,38 @@ def hold_at_one_moment(room, first, second):
     for words, image, text in ((("--strata", slow), first, b"1"), ((), second, b"2")):
         hold("a file of %s" % text, text, open_and_read(share(room, [image], *words) + "/x"))
     umount_all(room)
+
+
+def hold_led_elsewhere(room, first, second):
+    """Holds that a mount is not shared as that of an image whose server has opened another file, since a link led there
+    and back again meanwhile."""
+    link, at = room.folder + "/link", room.place()
+    os.symlink(first, link)
+    script = LED_ELSEWHERE % (os.path.dirname(SCRIPT), first, second, link, ["--share", "--strata", room.program, link, at])
+    done = subprocess.run([sys.executable, "-B", "-c", script], **ENDS)
+    hold("the link's mount", (0, "", b"2"), (done.returncode, done.stderr, open_and_read(at + "/x")))
+    hold("a file", b"1", open_and_read(share(room, [first]) + "/x"))
+    umount_all(room)
+
+
+def unnoted(room):
+    """Where a mount can't be noted, or no thread can be started, a line says so, and no mount is left."""
+    own_runtime()
+    image, at = room.layer(items_of(b"data")), room.place()
+    os.mkdir("/run/strata", 0o700)
+    called(libc.mount(b"tmpfs", b"/run/strata", b"tmpfs", 0, b"mode=700,size=4096"))
+    with open("/run/strata/full", "wb") as out:
+        out.write(bytes(4096))
+    for words in ((at,), ("--print",)):
+        status, _, told = run(room, "--share", image, *words)
+        hold("a full disk", (1, True), (status, told.endswith(": No space left on device\n") and told.startswith("mount.py: /run/strata/")))
+        hold("what is left", (set(), []), (alive(), [it for it in places() if it.startswith((room.folder, "/run/strata/"))]))
+    umount("/run/strata")
+    script = NO_THREADS % (os.path.dirname(SCRIPT), ["--background", "--strata", room.program, image, at])
+    done = subprocess.run([sys.executable, "-B", "-c", script], **ENDS)
+    hold("without threads", (1, "mount.py: Resource temporarily unavailable\n"), (done.returncode, done.stderr))
+    hold("what is left", (set(), False), (alive(), at in places()))
+    return "a full disk, and no thread: a line, and no mount left"
 
 
 def note_of(device):
@@ -308,6 +376,12 @@ def printed_to_user(room, image):
     hold("a folder of their own", (1, True), (bound.returncode, "--share --print" in bound.stderr))
     hold("fusermount3 -u", 0, subprocess.run(["fusermount3", "-u", at], **who).returncode)
     wait_until("all servers' end", lambda: not alive())
+    link = room.folder + "/link"
+    os.symlink(runtime, link)
+    who["env"]["XDG_RUNTIME_DIR"] = link + "/"
+    refused = subprocess.run([*words, "--share", "--print", image], **who)
+    hold("a link", (1, True), (refused.returncode, link + ": is a symbolic link" in refused.stderr))
+    who["env"]["XDG_RUNTIME_DIR"] = runtime
     os.chmod(runtime, 0o777)
     refused = subprocess.run([*words, "--share", "--print", image], **who)
     hold("a folder in which all may write", 1, refused.returncode)
@@ -539,4 +613,4 @@ def hold_of_another(room, image, to_run, to_pass):
         wait_until("the server's end", lambda: not alive())
 
 
-CHECKS = (sharing, raced, mistaken, spaces, revived, printed, strangers, occupied, listed, privileges)
+CHECKS = (sharing, raced, mistaken, spaces, unnoted, revived, printed, strangers, occupied, listed, privileges)

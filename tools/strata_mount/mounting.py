@@ -107,7 +107,10 @@ def answers_first(plan, server, bell, with_acls):
         told.extend((is_there, is_there and with_acls and acls.is_without(plan.folder)))
         bell.ring()
 
-    _thread.start_new_thread(ask, ())
+    try:
+        _thread.start_new_thread(ask, ())
+    except RuntimeError:
+        raise OSError(errno.EAGAIN, os.strerror(errno.EAGAIN)) from None  # for a thread
     if sys.stderr.isatty() and not plan.is_relayed():
         from strata_mount import image_progress
         image_progress.watch(told, bell, server.pid, plan.images if plan.whole else None)
@@ -187,10 +190,16 @@ def run(plan, counts=None, heard=None):
     try:
         tell_modes(plan)
         server = served(plan, device, errors, counts, confinement)
-        read_ahead.ask(cold)
-        status = waited(plan, server, errors, bell)
-        if status == 0 and plan.background and heard is not None:
-            heard(server)
+        try:
+            read_ahead.ask(cold)
+            status = waited(plan, server, errors, bell)
+            if status == 0 and plan.background and heard is not None:
+                heard(server)
+        except BaseException:
+            # a fault leaves no mount
+            server.send(signal.SIGTERM)
+            server.wait()
+            raise
         return interrupted(plan, server) if status is None else status
     finally:
         # what stands there by now may be another mount, which answers

@@ -12,6 +12,8 @@ NAME = "strata"
 OTHERS_WRITE = 0o022
 SET_ANOTHER = ("; without a login session, set XDG_RUNTIME_DIR to a directory of your own, in which nobody"
                " else may write")
+# of the flags of a process
+EXITING = 4
 FOLDER = os.O_RDONLY | os.O_DIRECTORY | os.O_NOFOLLOW | os.O_CLOEXEC
 
 
@@ -20,7 +22,8 @@ def runtime_folder():
     the user's own."""
     if os.stat("/run").st_uid == os.geteuid():
         return "/run"
-    said = os.environ.get("XDG_RUNTIME_DIR", "")
+    # a link with a slash behind it would be followed
+    said = os.environ.get("XDG_RUNTIME_DIR", "").rstrip("/")
     return said if os.path.isabs(said) else "/run/user/%d" % os.geteuid()
 
 
@@ -59,9 +62,9 @@ def opened_notes(makes=True):
     except OSError as fault:
         if fault.errno == 0:
             raise
-        is_link = fault.errno in (errno.ELOOP, errno.ENOTDIR)
-        what = "is a symbolic link" if is_link else fault.strerror
         where = top if above is None else place
+        is_link = fault.errno in (errno.ELOOP, errno.ENOTDIR) and os.path.islink(where)
+        what = "is a symbolic link" if is_link else fault.strerror
         other = SET_ANOTHER * (above is None and top != "/run")
         raise OSError(0, "%s; shared mounts are noted there%s" % (what, other), where) from None
     finally:
@@ -71,13 +74,13 @@ def opened_notes(makes=True):
 
 def start_of(process):
     """When a process has begun, in ticks of the clock since the machine did; None where there is
-    none, or it has ended."""
+    none, or it has ended or is about to."""
     try:
         with open("/proc/%d/stat" % process, "rb") as it:
             state, *words = it.read().rpartition(b")")[2].split()
     except OSError:
         return None
-    return None if state in (b"Z", b"X") else int(words[18])
+    return None if state in (b"Z", b"X") or int(words[5]) & EXITING else int(words[18])
 
 
 MS_REMOUNT, MS_BIND, MS_PRIVATE = 0x20, 0x1000, 0x40000

@@ -22,6 +22,7 @@ from strata_mount.device import flags_of, take_away
 from strata_mount.landlock import call
 from strata_mount.mount_table import KIND, mounts
 from strata_mount.preconditions import hold_images
+from strata_mount.privileges import is_elf
 from strata_mount.runtime import bind, opened_notes, start_of
 
 NOTE = os.O_RDWR | os.O_CREAT | os.O_NOFOLLOW | os.O_CLOEXEC
@@ -37,10 +38,9 @@ ANY_PLACE = os.O_PATH | os.O_DIRECTORY | os.O_NOFOLLOW | os.O_CLOEXEC
 
 # --- what a stack is ---
 
-def identity_of(plan):
-    """What a plan would show, as bytes: the images' files and their trees', by device, inode, size
-    and times, and all options, the digests among them, whatever the images are called; None where
-    an image or a tree is no file, or is missing."""
+def files_of(plan):
+    """The images' files and their trees', by device, inode, size and times; None where one is no
+    file, or is missing."""
     files = []
     for path in plan.files():
         try:
@@ -50,6 +50,12 @@ def identity_of(plan):
         if not stat.S_ISREG(it.st_mode):
             return None
         files.append((it.st_dev, it.st_ino, it.st_size, it.st_mtime_ns, it.st_ctime_ns))
+    return files
+
+
+def identity_of(plan, files):
+    """What a plan would show, as bytes: these files, and all options, the digests among them, whatever
+    the images are called."""
     program = os.stat(plan.program)
     options = mounting.option_words(plan), plan.seals(), plan.words, plan.keeps_privileges
     return repr((files, options, program.st_dev, program.st_ino, program.st_mtime_ns, processes())).encode()
@@ -133,11 +139,14 @@ class Note:
         return any(line.split()[3:] not in ([], [processes()]) for line in self.lines())
 
     def add(self, device, server):
-        """Notes a mount beside those whose servers are there."""
+        """Notes a mount beside those whose servers are there; OSError, with the path, if that can't be."""
         rows = [*self.live(), (device, server)]
         os.ftruncate(self.file, 0)
         text = "".join("%s %d %s %s\n" % (it, number, start_of(number), processes()) for it, number in rows)
-        os.pwrite(self.file, text.encode(), 0)
+        try:
+            os.pwrite(self.file, text.encode(), 0)
+        except OSError as fault:
+            raise OSError(fault.errno, fault.strerror, os.readlink("/proc/self/fd/%d" % self.file)) from None
 
     def close(self):
         os.close(self.file)
@@ -197,12 +206,13 @@ def is_serving(note, row):
 
 
 def has_failed(process):
-    """Whether the standard input of a process has failed; not where that may not be asked."""
+    """Whether the standard input of a process has failed, or is closed; not where that may not be
+    asked."""
     import select
     try:
         number = call(PIDFD_GETFD, c_ulong(process), c_ulong(0), c_ulong(0))
-    except OSError:
-        return False
+    except OSError as fault:
+        return fault.errno not in (errno.EPERM, errno.ENOSYS)
     try:
         asked = select.poll()
         asked.register(number, 0)
@@ -263,8 +273,8 @@ def hold_unshared(plan):
 
 def attempt(plan):
     """Mounts by a plan, or joins a mount that shows the same; the status to end with."""
-    identity = identity_of(plan)
-    if identity is None:
+    files = files_of(plan)
+    if files is None:
         hold_unshared(plan)
         return mounting.run(plan)
     if not plan.is_printed and os.geteuid() != 0:
@@ -272,6 +282,7 @@ def attempt(plan):
                "prints one for other users")
         raise OSError(0, why, plan.folder)
     folder, place = opened_notes()
+    identity = identity_of(plan, files)
     name = name_of(identity)
     note = Note(folder, name)
     try:
@@ -319,5 +330,21 @@ def noted(plan, note, identity, server, before):
     """Notes a mount that answers, if the images are still the files that they were. Where another
     has mounted there meanwhile nothing tells which is whose, and none is noted."""
     new = [it for it in standing_at(plan.folder) if it.number not in before]
-    if len(new) == 1 and new[0].kind == KIND and identity_of(plan) == identity:
+    files = files_of(plan)
+    if len(new) != 1 or new[0].kind != KIND or files is None or identity_of(plan, files) != identity:
+        return
+    if has_open(plan, server.pid, files):
         note.add(new[0].device, server.pid)
+
+
+def has_open(plan, process, files):
+    """Whether a server has these files open, so that no image's path led elsewhere meanwhile and back
+    again; so also where it keeps none open, or where that may not be seen, as of a script's."""
+    if plan.whole or not is_elf(plan.program):
+        return True
+    folder = "/proc/%d/fd" % process
+    try:
+        opened = [os.stat(os.path.join(folder, it)) for it in os.listdir(folder)]
+    except OSError as fault:
+        return fault.errno == errno.EACCES
+    return {(it.st_dev, it.st_ino) for it in opened}.issuperset(it[:2] for it in files)
