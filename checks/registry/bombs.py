@@ -19,14 +19,16 @@ from strata_layers import packing
 ROOM = 96 << 20
 # what it may reserve, most of which threads never use
 RESERVED = 1 << 30
+# what it may take of a processor's time, in seconds
+TIME = 60
 FOLDERS, NAMES = 400, 3000
 MIB = bytes(1 << 20)
 SHARED = "%s: a store must be its user's own, and others may write in this folder"
 
 
-def header(kind, name, size=0, link=""):
+def header(kind, name, size=0, link="", mode=0o644):
     info = tarfile.TarInfo(name)
-    info.type, info.size, info.linkname = kind, size, link
+    info.type, info.size, info.linkname, info.mode = kind, size, link, mode
     return info.tobuf(tarfile.USTAR_FORMAT)
 
 
@@ -67,11 +69,13 @@ def bounded(room, *words):
         size, held = (int(word) * resource.getpagesize() for word in it.read().split()[:2])
     before = resource.getrlimit(resource.RLIMIT_AS)
     resource.setrlimit(resource.RLIMIT_AS, (size + RESERVED, before[1]))
+    begin = resource.getrusage(resource.RUSAGE_CHILDREN).ru_utime
     try:
         done, resident = room.measured(*words)
     finally:
         resource.setrlimit(resource.RLIMIT_AS, before)
     hold("memory of a run, above %d bytes" % ROOM, 0, max(0, resident - held - ROOM))
+    hold("time of a run, above %d seconds" % TIME, 0, max(0, resource.getrusage(resource.RUSAGE_CHILDREN).ru_utime - begin - TIME))
     return done
 
 
@@ -90,6 +94,24 @@ def attributes():
     yield bytes(1024)
 
 
+def by_turns():
+    """Very many extended attributes of entries that differ in mode, kind, and what comes between them."""
+    yield extended(b"g", [(b"SCHILY.xattr.%05d" % number, b"1") for number in range(10000)])
+    own = extended(b"x", [(b"SCHILY.xattr.user.a", b"1")])
+    for number in range(400):
+        yield header(b"2" if number % 3 == 0 else b"0", "f%d" % number, link="f" * (number % 3 == 0), mode=0o600 | number % 64)
+        yield own + header(b"0", "g%d" % number)
+    yield bytes(1024)
+
+
+def equal_lists():
+    """Very many extended attributes, said of each entry anew."""
+    own = extended(b"x", [(b"SCHILY.xattr.%05d" % number, b"1") for number in range(10000)])
+    for number in range(100):
+        yield own + header(b"0", "f%d" % number)
+    yield bytes(1024)
+
+
 def lists():
     """A different list of extended attributes for each of many entries."""
     for number in range(100):
@@ -105,6 +127,31 @@ def deep():
     yield bytes(1024)
 
 
+def paths():
+    """Entries at paths that no image holds, of many names and of long ones."""
+    for number in range(12):
+        for path in (b"aa/" * 333000, b"a" * 1000000):
+            yield extended(b"x", [(b"path", b"%d" % number + path)]) + header(b"5", "x")
+        yield extended(b"x", [(b"linkpath", b"%d" % number + b"a" * 1000000)]) + header(b"1", "l%d" % number)
+
+
+def chain(end="none"):
+    """Hard links, each to the next, and the last to nothing."""
+    for number in range(20000):
+        yield header(b"1", "l%d" % number, link="l%d" % (number + 1) if number < 19999 else end)
+
+
+def refused_chain():
+    """The same, where the last leads to an entry that is refused."""
+    yield from chain("n" * 60)
+    yield header(b"V", "n" * 60)
+
+
+def ring():
+    """The same, where the last leads to the first."""
+    yield from chain("l0")
+
+
 def links():
     """Hard links to paths that no image holds."""
     for number in range(40):
@@ -113,10 +160,21 @@ def links():
 
 def check_much_of_little(room):
     """A few bytes that unpack to much take little memory, and few lines."""
-    for pieces, status in ((keywords, 0), (attributes, 0), (lists, 1), (deep, 0), (links, 1)):
+    for pieces, status in ((keywords, 0), (attributes, 0), (by_turns, 0), (equal_lists, 0), (lists, 1), (deep, 0), (paths, 1),
+                           (chain, 1), (refused_chain, 1), (ring, 1), (links, 1)):
         done = bounded(room, "pull", "oci:" + layout_of(room, pieces()).path, "a:1")
         hold("%s: %s" % (pieces.__name__, done.stderr[-300:]), status, done.returncode)
     hold("lines", 11, done.stderr.count("\n"))
+
+
+def check_many_of_one(room):
+    """An index that names one image for very many platforms: it is read once, and there is a most."""
+    it = made.Layout(room.name(), {"Labels": [[]] * 200000})
+    image = it.image([made.archive(made.entry("a"))])
+    for count, status, line in ((40, 0, ""), (257, 1, "tools/layers.py: %s/index.json: 257 images, allowed 1 to 256\n" % it.path)):
+        it.index(*({**made.tagged(image, "1"), "platform": {"os": "linux", "architecture": "a%d" % number}} for number in range(count)))
+        done = bounded(room, "convert", "--platform", "all", it.path, room.name())
+        hold("%d images" % count, (status, line), (done.returncode, done.stderr))
 
 
 def check_most_unpacked(room):
@@ -246,4 +304,4 @@ def hold_closed(room, place, line, source):
         hold("mount.strata", (32, "mount.strata: %s\n" % line), (done.returncode, done.stderr))
 
 
-CHECKS = [check_much_of_little, check_most_unpacked, check_shared_names, check_odd_words, check_odd_target, check_stores_of_others]
+CHECKS = [check_much_of_little, check_many_of_one, check_most_unpacked, check_shared_names, check_odd_words, check_odd_target, check_stores_of_others]

@@ -304,9 +304,24 @@ def check_progress(room):
     hold("no terminal", (0, ""), (done.returncode, done.stderr))
 
 
+def check_strange_words(room):
+    """What an image's configuration says does not act on a terminal; elsewhere it comes as it is. A user of very many digits
+    is none."""
+    it = made.Layout(room.name(), {"Env": ["A=\x1b[2J\u202e\n1"], "User": "9" * 5000, "Cmd": ["a"]})
+    it.index(made.tagged(it.image([made.archive(made.entry("etc/passwd", b"root:x:0:0::/:"))]), "1"))
+    room.layers("pull", "oci:" + it.path, "a:1")
+    hold("elsewhere", True, "env 'A=\x1b[2J\u202e\n1'\n" in room.layers("config", "a:1"))
+    ours, theirs = os.openpty()
+    subprocess.run(room.words("config", "a:1"), stdin=subprocess.DEVNULL, stdout=theirs, env=room.environment, check=True)
+    os.close(theirs)
+    hold("on a terminal", True, b"env 'A=\\1b[2J\\e2\\80\\ae\r\n1'\r\n" in os.read(ours, 1 << 16))
+    os.close(ours)
+    room.refused("the image has no user %s.." % ("9" * 200), "config", "--bwrap", "a:1")
+
+
 def checks():
     return [check_digests, check_verify, check_unlike_configuration, check_escapes, check_links_in_store,
-            check_left_over, check_two_at_once, check_full_disk, check_progress, check_killed_a_hundred_times]
+            check_left_over, check_two_at_once, check_full_disk, check_progress, check_strange_words, check_killed_a_hundred_times]
 
 
 def quick_checks():

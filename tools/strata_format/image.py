@@ -155,10 +155,9 @@ class Image(Tree):
 
     def extend(self, it, items):
         """Gives a node or a directory its extended attributes, pairs of name and value in order."""
+        for part in self.parts if items else ():
+            items = part.claim_list(items)
         it.extended = items
-        if items:
-            for part in self.parts:
-                part.claim_list(items)
 
     # --- the end ---
 

@@ -47,7 +47,7 @@ class Part:
         # the bytes of all that has come, and how many rows a trailer has at most
         self.claimed, self.nodes = self.at, 1
         # lists of extended attributes, and the bytes that they take behind the rows at most
-        self.lists, self.lists_size, self.list = set(), 32, None
+        self.lists, self.lists_size, self.list, self.held_list = {}, 32, None, None
 
     # --- bytes ---
 
@@ -102,18 +102,17 @@ class Part:
         return self.lists_size + 4 * (self.nodes + more) if self.lists else 0
 
     def claim_list(self, items):
-        """Claims room for a list of extended attributes; equal ones take it once. What is beyond is
-        noticed with the next header, or at the end."""
-        if items is self.list:
-            return
-        self.list = items
-        if items in self.lists:
-            return
-        self.lists.add(items)
-        self.lists_size += list_size(items)
+        """Claims room for a list of extended attributes; the first of those that are equal, which take
+        room once. What is beyond is noticed with the next header, or at the end."""
+        if items is not self.list:
+            if items not in self.lists:
+                self.lists[items] = items
+                self.lists_size += list_size(items)
+            self.list, self.held_list = items, self.lists[items]
         if self.lists_size > LISTS_MOST:
             raise Refused("the extended attributes of its files take more than %d bytes; --no-xattrs"
                           " leaves them out" % LISTS_MOST)
+        return self.held_list
 
     def claim(self, path, size):
         """Claims room for a header with all that stands behind it. The image must hold it, and

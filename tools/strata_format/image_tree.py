@@ -127,7 +127,7 @@ class Tree:
     def link_target(self, path, target):
         """What a hard link at a path leads to: a node, another link, or the path where nothing
         stands yet."""
-        if len(target) > NAMES_MOST:
+        if len(target) > NAMES_MOST or max(map(len, target), default=0) > NAME_MOST:
             raise BadEntry(nothing_there(path, target))
         found = self.found(target)
         if isinstance(found, Link) and not isinstance(found.target, tuple):
@@ -137,8 +137,8 @@ class Tree:
         return target if found is None else found
 
     def end_of(self, link):
-        """Where a hard link leads to in the end: what stands there, the last path that was said on the
-        way, and the links on it."""
+        """Where a hard link leads to in the end: what stands there, and the last path that was said on
+        the way. Each link on it is then led there at once, also where that is nothing."""
         way, seen, target, wanted = [], set(), link, ()
         while isinstance(target, (Link, tuple)) and target not in seen:
             seen.add(target)
@@ -147,18 +147,17 @@ class Tree:
             else:
                 way.append(target)
                 target = target.target
-        return target, wanted, way
+        for it in way:
+            it.target = target if isinstance(target, Node) else wanted
+        return target, wanted
 
     def node_of(self, link, path):
-        """The node that a hard link at a path leads to. Each link on the way is then led there at
-        once."""
-        target, wanted, way = self.end_of(link)
+        """The node that a hard link at a path leads to."""
+        target, wanted = self.end_of(link)
         if isinstance(target, Directory):
             raise BadEntry(directory_there(path, wanted))
         if not isinstance(target, Node):
             raise BadEntry(nothing_there(path, wanted))
-        for it in way:
-            it.target = target
         return target
 
     # --- ways through it ---

@@ -93,8 +93,11 @@ def shown(words):
     return text + ".." * (len(data) > SHOWN)
 
 
+def seen(text, also=""):
+    """Text in which what can't be seen, but for some characters, stands as `shown` has it."""
+    return "".join(it if it.isprintable() or it in also else shown(it) for it in text)
+
+
 def one_line(text):
-    """Text in one line: what can't be seen stands there as `shown` has it. Where it is very long,
-    its beginning."""
-    found = "".join(it if it.isprintable() else shown(it) for it in text[:LINE_MOST])
-    return found + ".." * (len(text) > LINE_MOST)
+    """The same in one line. Where it is very long, its beginning."""
+    return seen(text[:LINE_MOST]) + ".." * (len(text) > LINE_MOST)

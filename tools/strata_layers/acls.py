@@ -55,20 +55,20 @@ def bits_of(perms):
     return sum(bit for it, bit in zip(perms, (4, 2, 1)) if it != ord("-"))
 
 
-def mode_without(mode, found):
-    """The mode of a file that loses the entries of a list (None: nobody can read it): nobody has
-    more rights by it than by the list, but for the file's group where an entry takes rights from
-    one of its users. The mode's group bits are the list's mask, or, as libarchive writes them, its
-    group's own."""
+def bits_without(found):
+    """The bits that the mode of a file keeps which loses the entries of a list (None: nobody can
+    read it): nobody has more rights by it than by the list, but for the file's group where an entry
+    takes rights from one of its users. The mode's group bits are the list's mask, or, as libarchive
+    writes them, its group's own."""
     if found is None:
-        return mode & ~0o70
-    mask, group, other = 7, 0, mode & 7
+        return ~0o70
+    mask, group, other = 7, 0, 7
     for tag, perms, _ in found:
         if tag == MASK:
             mask &= perms
     for tag, perms, _ in found:
         if tag == GROUP_OBJ:
-            group = perms & mask & mode >> 3
+            group = perms & mask
         elif tag in NAMED:
             other &= perms & mask
-    return mode & ~0o77 | group << 3 | other
+    return ~0o77 | group << 3 | other

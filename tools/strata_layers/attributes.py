@@ -5,6 +5,7 @@ An entry has them by their names. A list of rights in its text has the name of i
 may stand beside one in its binary form, and may name users without their numbers.
 """
 import binascii
+import collections
 import errno
 import os
 
@@ -18,6 +19,10 @@ SCHILY_ACL, ACCESS_TEXT = b"SCHILY.acl.", b"acl.access"
 # the front of names of records, which no attribute has
 UNREAD = b"acl."
 TEXTS = {ACCESS_TEXT: ACCESS, b"acl.default": DEFAULT}
+# what an image keeps of extended attributes: a list of them, and the bits that the mode of their file
+# keeps and gets; and what it loses, None if that is all
+Settled = collections.namedtuple("Settled", "items kept_bits own_bits lost")
+ALL_BITS = 0o7777
 # what is reported about an attribute, by the front of its name, in the singular and the plural
 KINDS = {
     b"security.capability": ("capability", "capabilities"),
@@ -27,6 +32,23 @@ KINDS = {
     b"user.": ("user attribute", "user attributes"),
     b"": ("other attribute", "other attributes"),
 }
+
+
+class Attributes(dict):
+    """Extended attributes by their names. Very many entries may share the very same many, of which
+    everything is found out once."""
+
+    __slots__ = ("found",)
+
+    def __init__(self, *items):
+        super().__init__(*items)
+        self.found = {}
+
+    def once(self, key, make):
+        """What `make` gave under a key, or gives now."""
+        if key not in self.found:
+            self.found[key] = make()
+        return self.found[key]
 
 
 def of_record(keyword, value):
@@ -71,31 +93,30 @@ def of_file(path):
     except OSError as fault:
         if fault.errno != errno.ENOTSUP:
             raise
-        return {}
-    return {name: os.getxattr(path, name, follow_symlinks=False) for name in names}
+        return Attributes()
+    return Attributes((name, os.getxattr(path, name, follow_symlinks=False)) for name in names)
 
 
-def settled(mode, attributes, keeps):
-    """The mode of a file, its extended attributes that an image keeps, in order, and those that it
-    loses, by what `keeps` says of a name."""
+def settled(attributes, keeps):
+    """What an image keeps of extended attributes, by what `keeps` says of a name, and what that says
+    of their file's mode."""
+    nothing = Settled((), bits_without(attributes), 0, None)
     if not any(map(keeps, attributes)):
-        return mode_without(mode, attributes), (), attributes
-    found, lost = with_binary_acls(attributes), {}
+        return nothing
+    found, lost = with_binary_acls(attributes), Attributes()
     for name, value in [*found.items()]:
         value = sorted_acl(name, value)
         if keeps(name) and is_kept(name, value) and not name.startswith(UNREAD):
             found[name] = value
         else:
             lost[name] = found.pop(name)
-    mode = mode_without(mode, lost)
+    kept_bits, own_bits = bits_without(lost), 0
     if ACCESS in found:
-        mode = mode & ~0o777 | acl_mode(found[ACCESS])
+        kept_bits, own_bits = kept_bits & ~0o777, acl_mode(found[ACCESS])
         if not acls.is_more_than_a_mode(found[ACCESS]):
             del found[ACCESS]
     items = list_of(found)
-    if not is_good(items, mode):
-        return mode_without(mode, attributes), (), attributes
-    return mode, items, lost
+    return Settled(items, kept_bits, own_bits, lost) if is_good(items, own_bits) else nothing
 
 
 def with_binary_acls(attributes):
@@ -118,13 +139,14 @@ def sorted_acl(name, value):
     return acl_of(entries) if entries is not None else value
 
 
-def mode_without(mode, attributes):
-    """The mode of a file that loses its attributes."""
+def bits_without(attributes):
+    """The bits that the mode of a file keeps which loses its attributes."""
+    bits = ALL_BITS
     if ACCESS in attributes:
-        mode = acls.mode_without(mode, acl_entries(attributes[ACCESS]))
+        bits &= acls.bits_without(acl_entries(attributes[ACCESS]))
     if ACCESS_TEXT in attributes:
-        mode = acls.mode_without(mode, acls.of_text(attributes[ACCESS_TEXT]))
-    return mode
+        bits &= acls.bits_without(acls.of_text(attributes[ACCESS_TEXT]))
+    return bits
 
 
 def kind_of(name):

@@ -72,8 +72,10 @@ class Reading:
             raise Refused("%s: is of another kind in the image" % shown(place))
         if kind == romfs.REGULAR and found.st_size != size:
             raise Refused("%s: has %d bytes, and %d in the image" % (shown(place), found.st_size, size))
-        mode, items, lost = settled(stat.S_IMODE(found.st_mode), of_file(place), self.lost.keeps)
-        self.rows[at] = said_by(found, mode)
+        there = of_file(place)
+        items, kept_bits, own_bits, lost = settled(there, self.lost.keeps)
+        self.rows[at] = said_by(found, stat.S_IMODE(found.st_mode) & kept_bits | own_bits)
+        lost = there if lost is None else lost
         if items:
             self.lists[at] = items
         if lost:

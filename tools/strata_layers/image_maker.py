@@ -44,6 +44,12 @@ def is_about_layers_below(path):
     return any(name.startswith(MARKER) for name in path)
 
 
+def mark_of(path):
+    """What stands for a path that no image may hold, however long it is."""
+    from hashlib import sha256  # most images need none of it
+    return sha256(b"/".join(path)).digest()
+
+
 def put(image, path, entry, items):
     """Puts an entry into an image, with these extended attributes."""
     if entry.kind == entries.HARD:
@@ -75,9 +81,8 @@ class Maker:
 
     def __init__(self, image, lost, where=""):
         self.image, self.lost, self.where = image, lost, where
+        # the marks of paths whose entries are left out, and of those whose entries are refused
         self.faults, self.left_out, self.refused = Faults(), set(), set()
-        # what was settled last: of which attributes and mode, and what came of it
-        self.settled = None, None, None
 
     def put_archive(self, entries):
         """All entries of an archive of tar."""
@@ -94,7 +99,7 @@ class Maker:
         """Notes the hard links that lead to nothing, but those to an entry that is refused itself:
         an image that isn't finished finds none."""
         for path, link in self.image.links():
-            if self.image.end_of(link)[1] not in self.refused:
+            if mark_of(self.image.end_of(link)[1]) not in self.refused:
                 try:
                     self.image.node_of(link, path)
                 except BadEntry as bad:
@@ -139,27 +144,27 @@ class Maker:
 
     def refuse(self, path, bad):
         """Notes what is wrong with the entry at a path."""
-        self.refused.add(path)
+        self.refused.add(mark_of(path))
         self.faults.note(bad)
 
     def settle(self, entry):
         """The extended attributes of an entry that are kept, which has those that are lost then, and
-        the mode that goes with this. Very many entries may have the very same many."""
+        the mode that goes with this."""
         there = entry.attributes
         if not there:
             return ()
         keeps = self.lost.keeps_of_link if entry.kind == entries.SYMBOLIC else self.lost.keeps
-        if self.settled[0] is not there or self.settled[1] != (entry.mode, keeps):
-            self.settled = there, (entry.mode, keeps), settled(entry.mode, there, keeps)
-        entry.mode, items, entry.attributes = self.settled[2]
-        return items
+        found = there.once(keeps, lambda: settled(there, keeps))
+        entry.mode = entry.mode & found.kept_bits | found.own_bits
+        entry.attributes = there if found.lost is None else found.lost
+        return found.items
 
     def is_left_out(self, entry):
         """Whether an entry is a hard link to what was left out."""
-        return entry.kind == entries.HARD and self.left_out and path_of(entry.link) in self.left_out
+        return entry.kind == entries.HARD and self.left_out and mark_of(path_of(entry.link)) in self.left_out
 
     def leave_out(self, path):
-        self.left_out.add(path)
+        self.left_out.add(mark_of(path))
         self.lost.note("entries", self.where + path_text(path))
 
 

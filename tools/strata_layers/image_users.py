@@ -38,8 +38,8 @@ def number_in(field):
 
 def found_row(rows, word):
     """The first row of this name, or, where the word is a number, else of this number."""
-    named = (row for row in rows if row[0] == word)
-    numbered = (row for row in rows if word.isdigit() and number_in(row[2]) == int(word))
+    named, number = (row for row in rows if row[0] == word), number_in(word)
+    numbered = (row for row in rows if number is not None and number_in(row[2]) == number)
     return next(named, None) or next(numbered, None)
 
 

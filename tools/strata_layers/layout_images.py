@@ -23,6 +23,9 @@ PARTS = re.compile("[2-9]|[1-9][0-9]{1,2}")
 PARENT = "vnd.strata.layer.parent"
 PARENTS = re.compile("sha256:[0-9a-f]{64}")
 
+# so many images of platforms are converted at once
+IMAGES_MOST = 256
+
 Image = collections.namedtuple("Image", "descriptor manifest config media layers archives parts parents digests")
 
 
@@ -74,18 +77,28 @@ def notes_in(manifest, key):
             for it in manifest["layers"]]
 
 
-def image_of(layout, descriptor, asked=None):
-    """The image of a manifest; where a platform is asked for, it must be of it."""
-    manifest, where = layout.document(descriptor)
+def image_of(layout, descriptor, asked=None, read=None):
+    """The image of a manifest; where a platform is asked for, it must be of it. `read` has documents
+    that were read, by their descriptors: very many images may name the same."""
+    read = {} if read is None else read
+    manifest, where = document_of(layout, descriptor, read)
     layers = layers_in(manifest, where)
     described = descriptor_of(field(manifest, "config", dict, where), where)
-    config, where = layout.document(described, is_config=True)
+    config, where = document_of(layout, described, read, is_config=True)
     if asked and config.get("architecture", asked[0]) != asked[0]:
         raise Refused("%s: is for %s" % (where, shown(str(config["architecture"]))))
     archives = archives_in(config, len(layers), where)
     parts, parents = parts_in(manifest), parents_in(manifest)
     return Image(descriptor, manifest, config, described.media, layers, archives, parts, parents,
                  digests_in(manifest))
+
+
+def document_of(layout, it, read, is_config=False):
+    """A document of a layout, and what it is called; it is read once."""
+    key = it.media, it.algorithm, it.digits, it.size, is_config
+    if key not in read:
+        read[key] = layout.document(it, is_config)
+    return read[key]
 
 
 def all_images(layout, tag):
@@ -104,4 +117,7 @@ def all_images(layout, tag):
             break
     if not found:
         raise Refused("%s: no image" % where)
-    return [image_of(layout, it) for it in found.values()]
+    if len(found) > IMAGES_MOST:
+        raise Refused("%s: %d images, allowed 1 to %d" % (where, len(found), IMAGES_MOST))
+    read = {}
+    return [image_of(layout, it, read=read) for it in found.values()]

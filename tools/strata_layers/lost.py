@@ -47,8 +47,6 @@ class Lost:
     def __init__(self, leaves_out=False, fails=False, bare=False):
         self.counts, self.named = {}, {}
         self.leaves_out, self.fails, self.bare = leaves_out, fails, bare
-        # the extended attributes that were noted last, and what there is among them
-        self.last = self.parts = None
 
     def keeps(self, _name):
         """Whether an extended attribute of a name is kept, if its value may be."""
@@ -76,15 +74,13 @@ class Lost:
             lines.append("  " + where + (": " + shown(b",".join(names[:SHOWN]))) * bool(names))
 
     def note_attributes(self, where, there):
-        """Notes an entry that has these extended attributes. Very many entries may have the very
-        same many, which are then looked at once."""
-        if there is not self.last:
-            self.last, self.parts = there, Parts(there)
-        if self.parts.own:
-            self.note("overlays", where, self.parts.own)
-        if self.parts.others:
-            self.note("attributes", where, self.parts.others)
-            self.add(self.parts.counts)
+        """Notes an entry that has these extended attributes."""
+        parts = there.once(Parts, lambda: Parts(there))
+        if parts.own:
+            self.note("overlays", where, parts.own)
+        if parts.others:
+            self.note("attributes", where, parts.others)
+            self.add(parts.counts)
 
     def note_entry(self, front, path, entry):
         """Notes an entry at a path, which is named behind some words. What a hard link leads to

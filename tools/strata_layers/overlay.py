@@ -6,6 +6,7 @@ import stat
 from strata_format.refused import BadEntry
 from strata_format.romfs import path_text
 from strata_format.xattrs import OVERLAYS
+from strata_layers.attributes import Attributes
 from strata_layers.entries import MARKER
 
 # with these, what is shown at a path is not what stands there, but something of the layers below
@@ -17,8 +18,8 @@ def parted(attributes):
     their names."""
     marks = {os.fsdecode(name[len(front):]): value for front in OVERLAYS
              for name, value in attributes.items() if name.startswith(front)}
-    return marks, {name: value for name, value in attributes.items()
-                   if not name.startswith(OVERLAYS)}
+    return marks, Attributes((name, value) for name, value in attributes.items()
+                             if not name.startswith(OVERLAYS))
 
 
 def check(path, marks):

@@ -43,7 +43,7 @@ class NoImage(Refused):
 
 def brought(name):
     """What is said of how an image is brought into a store."""
-    return "`strata-layers pull SOURCE %s` brings it there" % name
+    return "`strata-layers pull SOURCE %s` brings it there" % shown(name)
 
 
 def is_word(text, not_first):

@@ -217,7 +217,7 @@ class Tar:
             attribute = attributes.of_record(keyword, value)
             if attribute is not None:
                 # even an empty one, since a header's own attributes stand instead of a global header's
-                add_attribute(found.setdefault(ATTRIBUTES, {}), *attribute)
+                add_attribute(found.setdefault(ATTRIBUTES, attributes.Attributes()), *attribute)
             elif keyword in (sparse_maps.OFFSET, sparse_maps.NUMBYTES):
                 found.setdefault(sparse_maps.PAIRS, []).append(value)
             elif keyword in KEYWORDS or keyword in sparse_maps.KEYWORDS:

@@ -5,7 +5,7 @@ import collections
 import os
 
 from strata_format import ends
-from strata_format.refused import Refused, bytes_of
+from strata_format.refused import Refused, bytes_of, seen
 from strata_format.version import command
 from strata_format.words import no_option, quoted
 from strata_layers.lost import Lost
@@ -20,6 +20,12 @@ NOT_ROOT = ("run this in `podman unshare`; elsewhere allow_other needs a line us
 def print_line(text, done=""):
     """Prints a line of what was asked for, or of what is done; OSError where it isn't taken."""
     ends.put(bytes_of(text) + b"\n", done)
+
+
+def print_strange(text):
+    """The same of a stranger's words. On a terminal, which might act on them, what can't be seen is
+    shown."""
+    print_line(seen(text, "\n\t") if os.isatty(1) else text)
 
 
 def told(lost):
@@ -130,14 +136,14 @@ def run_config(asked):
     config = image_in(store, name).config
     if asked.form is None:
         for line in config_lines(config):
-            print_line(line)
+            print_strange(line)
         return 0
     from strata_layers.image_config import RunConfig
     it = RunConfig(config)
     words, left_out = sandbox_words(store, name, it, asked), it.no_variables()
     if left_out is not None:
         ends.write(left_out + "\n")
-    print_line(quoted(words))
+    print_strange(quoted(words))
     return 0
 
 

@@ -18,6 +18,7 @@ import _signal as signal
 import os
 
 from strata_format import ends
+from strata_format.refused import one_line
 from strata_format.version import version
 from strata_mount.mounting import attempt
 from strata_mount.options import Options, Wrong, digest_of
@@ -150,6 +151,6 @@ def main(words, name):
             return ends.tell(name, listing.text("json" in read.said))
         plan = plan_of(read, name)
     except WrongWords as wrong:
-        ends.write(USAGE % name + "%s: error: %s\n" % (name, wrong))
+        ends.write(USAGE % name + "%s: error: %s\n" % (name, one_line(str(wrong))))
         return WRONG_WORDS
     return ends.leave(attempt(plan))

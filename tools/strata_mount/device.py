@@ -52,7 +52,7 @@ def mount(plan, device):
     text = ["fd=%d,rootmode=40000,user_id=%d,group_id=%d" % (device, *owner)]
     text += [word for word in plan.words if word not in SETS and word not in CLEARS]
     status = libc.mount(os.fsencode(plan.shown_source()), os.fsencode(plan.folder), os.fsencode(KIND),
-                        c_ulong(flags_of(plan.words)), ",".join(text).encode())
+                        c_ulong(flags_of(plan.words)), os.fsencode(",".join(text)))
     called(status, plan.folder + ": mount")
 
 
