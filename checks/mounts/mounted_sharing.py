@@ -254,13 +254,16 @@ def hold_at_one_moment(room, first, second):
 def hold_led_elsewhere(room, first, second):
     """Holds that a mount is not shared as that of an image whose server has opened another file, since a link led there
     and back again meanwhile."""
-    link, at = room.folder + "/link", room.place()
-    os.symlink(first, link)
-    script = LED_ELSEWHERE % (os.path.dirname(SCRIPT), first, second, link, ["--share", "--strata", room.program, link, at])
-    done = subprocess.run([sys.executable, "-B", "-c", script], **ENDS)
-    hold("the link's mount", (0, "", b"2"), (done.returncode, done.stderr, open_and_read(at + "/x")))
-    hold("a file", b"1", open_and_read(share(room, [first]) + "/x"))
-    umount_all(room)
+    for words in ((), ("-o", "whole")):
+        link, at = room.folder + "/link", room.place()
+        os.symlink(first, link)
+        line = ["--share", *words, "--strata", room.program, link, at]
+        script = LED_ELSEWHERE % (os.path.dirname(SCRIPT), first, second, link, line)
+        done = subprocess.run([sys.executable, "-B", "-c", script], **ENDS)
+        hold("the link's mount", (0, "", b"2"), (done.returncode, done.stderr, open_and_read(at + "/x")))
+        hold("a file", b"1", open_and_read(share(room, [first], *words) + "/x"))
+        umount_all(room)
+        os.unlink(link)
 
 
 def unnoted(room):

@@ -339,8 +339,11 @@ def noted(plan, note, identity, server, before):
 
 def has_open(plan, process, files):
     """Whether a server has these files open, so that no image's path led elsewhere meanwhile and back
-    again; so also where it keeps none open, or where that may not be seen, as of a script's."""
-    if plan.whole or not is_elf(plan.program):
+    again; so also where that may not be seen, as of a script's. It keeps no image open that it read in
+    full, which its digest then holds to what was asked for."""
+    if plan.whole:
+        return bool(plan.seals()) and None not in plan.seals()
+    if not is_elf(plan.program):
         return True
     folder = "/proc/%d/fd" % process
     try:
