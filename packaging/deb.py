@@ -66,7 +66,7 @@ else
     find /usr/lib/strata -name __pycache__ -prune -exec rm -r {} +
 fi
 """
-# the service that runs goes on with the files that are there now; its socket, containers and their mounts stay
+# the service that runs goes on with the new files; its socket, containers and their mounts stay
 SNAPSHOTTER_POSTINST = """\
 #!/bin/sh
 set -e

@@ -78,7 +78,7 @@ def service(root):
     # as in images of containers it may forbid all starts
     if os.path.exists(POLICY):
         os.unlink(POLICY)
-    # in the place of systemd's own, it notes what it is told, and says of each unit that it is enabled
+    # instead of systemd's own; it notes its words, and says of each unit that it is enabled
     with open("/usr/local/sbin/systemctl", "w", encoding="ascii") as out:
         out.write("#!/bin/sh\necho \"$*\" >> /tmp/told\necho enabled\n")
     os.chmod("/usr/local/sbin/systemctl", 0o755)
