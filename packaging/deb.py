@@ -66,6 +66,35 @@ else
     find /usr/lib/strata -name __pycache__ -prune -exec rm -r {} +
 fi
 """
+# the service that runs goes on with the new files; its socket, containers and their mounts stay
+SNAPSHOTTER_POSTINST = """\
+#!/bin/sh
+set -e
+if [ "$1" = configure ] && [ -n "$2" ] && [ -d /run/systemd/system ]; then
+    systemctl --system daemon-reload > /dev/null || true
+    deb-systemd-invoke restart strata-snapshotter.service > /dev/null || true
+fi
+"""
+SNAPSHOTTER_PRERM = """\
+#!/bin/sh
+set -e
+if [ "$1" = remove ] && [ -d /run/systemd/system ]; then
+    deb-systemd-invoke stop strata-snapshotter.service strata-snapshotter.socket > /dev/null || true
+fi
+"""
+# the links are those of `systemctl enable`, which lead to nothing once the package is removed
+SNAPSHOTTER_POSTRM = """\
+#!/bin/sh
+set -e
+if [ "$1" = remove ]; then
+    for target in multi-user.target.wants/strata-snapshotter.service sockets.target.wants/strata-snapshotter.socket; do
+        rm -f "/etc/systemd/system/$target"
+    done
+    if [ -d /run/systemd/system ]; then
+        systemctl --system daemon-reload > /dev/null || true
+    fi
+fi
+"""
 # py3compile's own, at an upgrade of python3
 RTUPDATE = """\
 #!/bin/sh
@@ -212,7 +241,8 @@ def build(program, folder):
     said = control(CONTROL, found, scripts, architecture=machine, libc=libc_of(program))
     yield write(os.path.join(folder, "strata_%s_%s.deb" % (version, machine)), said, found, moment)
     found = sorted([*packaged(files.snapshotter_entries(PYTHON)), *said_of("strata-snapshotter", moment)])
-    said = control(SNAPSHOTTER_CONTROL, found)
+    scripts = (("postinst", SNAPSHOTTER_POSTINST), ("prerm", SNAPSHOTTER_PRERM), ("postrm", SNAPSHOTTER_POSTRM))
+    said = control(SNAPSHOTTER_CONTROL, found, scripts)
     yield write(os.path.join(folder, "strata-snapshotter_%s_all.deb" % version), said, found, moment)
 
 

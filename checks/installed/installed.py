@@ -14,8 +14,8 @@ from checks.installed import commands, faults, mounts, packages, pages, programs
 from checks.installed.roots import apart
 
 CHECKS = (
-    programs.named, programs.early, pages.shown, pages.linked, pages.options, pages.narrow, pages.shells, pages.words_of_fstab, pages.faults,
-    packages.same_bytes, packages.uninstalled, packages.unbuilt, commands.in_reference)
+    programs.named, programs.early, pages.shown, pages.linked, pages.options, pages.narrow, pages.shells, pages.words_of_fstab,
+    pages.faults, packages.same_bytes, packages.service, packages.uninstalled, packages.unbuilt, commands.in_reference)
 # those that mount
 MOUNTING = (
     programs.alone, programs.lean, programs.links, mounts.typed, mounts.by_fstab, mounts.words, mounts.colons, mounts.stored,

@@ -127,13 +127,13 @@ def words(root):
     hold("options of the mount", {"ro", "noexec", "nosuid", "nodev", "allow_other"},
          {"ro", "noexec", "nosuid", "nodev", "allow_other"} & set(shown))
     done = root.run("mount", "-o", "remount,exec", "/srv/made")
-    hold("remount", (WRONG_WORDS, "mount.strata: a mount of strata cannot be changed (remount): unmount it and mount again\n"),
+    hold("remount", (WRONG_WORDS, "mount.strata: /srv/made: a mount of strata cannot be changed (remount): unmount it and mount again\n"),
          (done.status, done.err))
     root.good("umount", "/srv/made")
     for said in ("nonsense", "ro,nonsense=3", "defaults,nonsense"):
         done = root.run("mount", "-t", "strata", STACK, "/srv/made", "-o", said)
         hold("the status of -o %s" % said, WRONG_WORDS, done.status)
-        hold_in("-o " + said, "mount.strata: -o: unknown: nonsense", done.err)
+        hold_in("-o " + said, "mount.strata: /srv/made: -o: unknown: nonsense", done.err)
     for said in ("workers=many", "strict=yes", "whole=yes", "fd=3", "uid=-1"):
         hold("the status of -o %s" % said, WRONG_WORDS, root.run("mount", "-t", "strata", STACK, "/srv/made", "-o", said).status)
     hold("mounts", [], places())
@@ -151,7 +151,7 @@ def owner(root):
     for said in ("uid=4294967296", "gid=4294967296"):
         done = root.run("mount", "-t", "strata", STACK, "/srv/made", "-o", said)
         hold("the status of -o %s" % said, WRONG_WORDS, done.status)
-        hold_in("-o " + said, "%s=N is a number from 0 to 4294967295" % said[:3], done.err)
+        hold_in("-o " + said, "mount.strata: /srv/made: %s=N is a number from 0 to 4294967295" % said[:3], done.err)
 
 
 def colons(root):

@@ -23,6 +23,9 @@ PATHS = ("bin/strata", "bin/strata-mount", "bin/strata-layers", "sbin/mount.stra
 
 # the package of the snapshotter, which is made beside that of strata
 SNAPSHOTTER = "strata-snapshotter_"
+POLICY = "/usr/sbin/policy-rc.d"
+# where `systemctl enable` links its units
+WANTED = (("multi-user.target", "strata-snapshotter.service"), ("sockets.target", "strata-snapshotter.socket"))
 
 
 def made(root, target, suffix):
@@ -63,6 +66,43 @@ def package(root):
     hold("dpkg -P: %s" % done.err, 0, done.status)
     hold("what is left", {"/etc/fstab"}, root.written() - before)
     return "installed, mounted by fstab, removed without a trace; " + linted(root, path)
+
+
+def service(root):
+    """The snapshotter's service is started anew when its package is upgraded, stopped when it is removed, and stays enabled nowhere."""
+    root.needs("dpkg", "dpkg-deb", "strip", "deb-systemd-invoke")
+    made(root, "deb", ".deb")
+    root.enter()
+    path, = ["/tmp/made/" + name for name in os.listdir("/tmp/made") if name.startswith(SNAPSHOTTER)]
+    os.makedirs("/run/systemd/system")
+    # as in images of containers it may forbid all starts
+    if os.path.exists(POLICY):
+        os.unlink(POLICY)
+    # instead of systemd's own; it notes its words, and says of each unit that it is enabled
+    with open("/usr/local/sbin/systemctl", "w", encoding="ascii") as out:
+        out.write("#!/bin/sh\necho \"$*\" >> /tmp/told\necho enabled\n")
+    os.chmod("/usr/local/sbin/systemctl", 0o755)
+    links = ["/etc/systemd/system/%s.wants/%s" % it for it in WANTED]
+    for link in links:
+        os.makedirs(os.path.dirname(link), exist_ok=True)
+        os.symlink("/lib/systemd/system/" + os.path.basename(link), link)
+    for words, told in ((("--force-depends", "-i", path), []),
+                        (("--force-depends", "-i", path), ["--quiet --system restart strata-snapshotter.service"]),
+                        (("-r", "strata-snapshotter"), ["stop strata-snapshotter.service strata-snapshotter.socket"])):
+        done = root.run("dpkg", *words)
+        hold("dpkg %s: %s" % (words[0], done.err), 0, done.status)
+        hold(" ".join(words), told, list(told_by("/tmp/told")))
+    hold("links that are left", [], [link for link in links if os.path.lexists(link)])
+    return "started anew, stopped, and nowhere enabled"
+
+
+def told_by(path):
+    """The words of systemctl that start or stop, of a file that ends with that."""
+    if not os.path.exists(path):
+        return
+    with open(path, encoding="ascii") as lines:
+        yield from (line.rstrip() for line in lines if {"start", "restart", "stop"} & set(line.split()))
+    os.unlink(path)
 
 
 def beside(root):

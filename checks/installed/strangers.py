@@ -145,6 +145,10 @@ def names(root):
     gone = "cd /tmp/gone; rmdir /tmp/gone; exec "
     held_refused(root, "a folder that is gone", NOT_MOUNTED, "mount.strata: the working folder: No such file or directory",
                  "sh", "-c", gone + HELPER + " x.romfs " + PLACE)
+    os.mkdir("/tmp/gone")
+    gone = "mount -t tmpfs gone /tmp/gone; cp %s /tmp/gone/x.romfs; cd /tmp/gone; umount -l /tmp/gone; exec " % LOWER
+    held_refused(root, "a folder without a path", 1, "strata-mount: the working folder: No such file or directory",
+                 "sh", "-c", gone + "strata-mount --background x.romfs " + PLACE)
     return "names of all bytes are shown in one line"
 
 

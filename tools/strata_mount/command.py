@@ -130,7 +130,11 @@ def source_of(names):
     """What the table of mounts says of images: the lowest one's name, and how many lie on it."""
     first, *upper = names
     if not first.startswith("image:") and os.path.lexists(first):
-        first = os.path.abspath(first)
+        try:
+            first = os.path.abspath(first)
+        except OSError:
+            # a working folder that has no path here, as after umount -l; attempt says so
+            pass
     return first[:SOURCE_MOST] + ("+%d" % len(upper) if upper else "")
 
 

@@ -79,14 +79,18 @@ def word_of(names):
 
 def plan_of(read, name):
     """The plan that mount(8)'s words say."""
-    options = Options(",".join(read.said.get("o", [])))
-    if options.unknown and "sloppy" not in read.said:
-        raise Wrong("-o: unknown: %s" % ", ".join(options.unknown))
-    # mount(8) says rw wherever no ro was said; the tree is never written
-    options.mount = [word for word in options.mount if word != "rw" and word not in options.unknown]
     if len(read.names) != 2:
         raise WrongWords("LOWER[:UPPER].. and DIR are required")
     spec, folder = read.names
+    try:
+        options = Options(",".join(read.said.get("o", [])))
+        if options.unknown and "sloppy" not in read.said:
+            raise Wrong("-o: unknown: %s" % ", ".join(options.unknown))
+    except Wrong as wrong:
+        # by that `mount -a` tells which line it is
+        raise Wrong("%s: %s" % (folder, wrong)) from None
+    # mount(8) says rw wherever no ro was said; the tree is never written
+    options.mount = [word for word in options.mount if word != "rw" and word not in options.unknown]
     is_stored = spec.startswith("image:")
     names = [spec] if is_stored else names_of(spec)
     source = spec if is_stored or all(map(os.path.isabs, names)) else word_of(names)
