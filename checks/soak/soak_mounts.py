@@ -33,7 +33,7 @@ def inside(program, folder, seconds, function):
     if b"unexpected argument" in usage.stderr:
         raise LeftOut("the program serves no %s" % DEVICE)
     mounting.adopt()
-    mounting.SECONDS = seconds
+    mounting.SECONDS = seconds * mounting.SLOWER
     told = apart(lambda: function(Room(program, folder)))
     if told.startswith("FAILED: "):
         raise Failed(told[8:])

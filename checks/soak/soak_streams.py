@@ -143,7 +143,7 @@ def mount(program, folder, seconds):
     if b"unexpected argument" in usage.stderr:
         raise LeftOut("the program serves no %s" % DEVICE)
     mounting.adopt()
-    mounting.SECONDS = int(seconds) + 60
+    mounting.SECONDS = (int(seconds) + 60) * mounting.SLOWER
     told = apart(lambda: called_at_random(Room(program, folder), seconds))
     if told.startswith("FAILED: "):
         raise Failed(told[8:])

@@ -79,7 +79,10 @@ def is_name(text):
 
 def processes():
     """Which namespace of processes this is: the numbers of another one's say nothing here."""
-    return str(os.stat("/proc/self/ns/pid").st_ino)
+    try:
+        return str(os.stat("/proc/self/ns/pid").st_ino)
+    except OSError:
+        return "0"  # the kernel has but one
 
 
 def noted_servers():
