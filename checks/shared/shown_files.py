@@ -54,7 +54,10 @@ class ShownFiles:
             if select.select([self.device], [], [], 0.002)[0]:
                 try:
                     message = os.read(self.device, 1 << 18)
-                except OSError:
+                except OSError as fault:
+                    # a request that was interrupted before it came is gone
+                    if fault.errno == errno.ENOENT:
+                        continue
                     return
                 if not self.answer(message):
                     waiting.append(message)
