@@ -315,4 +315,5 @@ def hold_closed(room, place, line, source):
         hold("mount.strata", (32, "mount.strata: %s\n" % line), (done.returncode, done.stderr))
 
 
-CHECKS = [check_much_of_little, check_many_of_one, check_most_unpacked, check_shared_names, check_odd_words, check_odd_target, check_stores_of_others]
+CHECKS = [check_much_of_little, check_many_of_one, check_most_unpacked, check_shared_names, check_odd_words, check_odd_target,
+          check_stores_of_others]

@@ -322,4 +322,5 @@ class Tar:
         # a few bytes may say no end of holes, and all of an image is hashed
         self.holes_left -= found.size - self.left if found.size <= trailer.END_MOST else 0
         if self.holes_left < 0:
-            raise Refused("%s: with it the holes of sparse files have more than %d bytes" % (shown(entry.name), HOLES_MOST))
+            raise Refused("%s: with it the holes of sparse files have more than %d bytes"
+                          % (shown(entry.name), HOLES_MOST))
