@@ -1,10 +1,13 @@
 """Checks of what goes wrong: a snapshotter that is killed, mounts that are gone, a full disk, a
 damaged database, removals while images are made, many calls at once."""
+import contextlib
 import glob
 import os
 import random
+import resource
 import signal
 import socket
+import sqlite3
 import subprocess
 import threading
 import time
@@ -241,6 +244,12 @@ def check_refused_roots(snapshotter):
         with open(base, "wb") as file:
             file.write(wrong)
         hold_line("a damaged database", "state.db: ")
+    for words in ("kind = 9", "form = 'x'", "labels = 'x'", "labels = '[]'", "labels = '{\"a\": 1}'", "name = x'ff'", "parent = id"):
+        with open(base, "wb") as file:
+            file.write(data)
+        with contextlib.closing(sqlite3.connect(base, isolation_level=None)) as opened:
+            opened.execute("UPDATE snapshots SET " + words)
+        hold_line("a snapshot with " + words, "state.db: damaged: snapshot 1;")
     with open(base, "wb") as file:
         file.write(data)
     snapshotter.start()
@@ -412,8 +421,27 @@ def check_greetings(snapshotter):
         passing.stop()
 
 
+def check_too_many_connections(snapshotter):
+    """Where there are too many connections at once no more are taken, but later ones are."""
+    place = snapshotter.folder + "/outer.sock"
+    with socket.socket(socket.AF_UNIX) as listening, contextlib.ExitStack() as opened:
+        listening.bind(place)
+        listening.listen(100)
+        passing = sockets.Passing(listening, snapshotter.socket)
+        clients = [opened.enter_context(socket.socket(socket.AF_UNIX)) for _ in range(20)]
+        before = resource.getrlimit(resource.RLIMIT_NOFILE)
+        resource.setrlimit(resource.RLIMIT_NOFILE, (len(os.listdir("/proc/self/fd")) + 6, before[1]))
+        for it in clients:
+            it.connect(place)
+        time.sleep(0.2)
+        resource.setrlimit(resource.RLIMIT_NOFILE, before)
+        clients[-1].settimeout(SECONDS / 2)
+        hold("settings", sockets.GREETING, sockets.received(clients[-1], len(sockets.GREETING)))
+        passing.stop()
+
+
 CHECKS = (check_killed_and_restarted, check_mounts_that_are_gone, check_kept_mounts,
           check_the_launcher_killed, check_what_is_mounted_ahead, check_replaced_folders,
           check_what_a_killed_one_left, check_random_kills, check_refused_roots, check_removed_while_it_is_made, check_removed_while_it_is_committed,
           check_many_at_once, check_a_full_disk, check_the_socket_of_systemd,
-          check_greetings)
+          check_greetings, check_too_many_connections)

@@ -175,7 +175,7 @@ class Lie:
         size = len(self.right[name])
         if not (is_on and self.has_sizes and name in self.names):
             return size
-        return self.rng.choice([size, 0, 1, size - 1, size // 2, size - size % BLOCK, size + 1, size + 16, size + BLOCK,
+        return self.rng.choice([size, 0, 1, max(0, size - 1), size // 2, size - size % BLOCK, size + 1, size + 16, size + BLOCK,
                                 len(self.other[name]), size // BLOCK * BLOCK + BLOCK, 2 * size, 2 ** 32 - 1])
 
 

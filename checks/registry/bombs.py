@@ -127,6 +127,17 @@ def deep():
     yield bytes(1024)
 
 
+def holes():
+    """Files of nothing but holes, each as large as an image can be."""
+    for number in range(300):
+        head = bytearray(header(b"S", "s%d" % number))
+        head[386:410], head[483:495] = b"0".rjust(11) + b"\0" + b"0".rjust(11) + b"\0", b"%011o\0" % ((1 << 32) - (1 << 20))
+        head[148:156] = b" " * 8
+        head[148:156] = b"%06o\0 " % sum(head)
+        yield bytes(head)
+    yield bytes(1024)
+
+
 def paths():
     """Entries at paths that no image holds, of many names and of long ones."""
     for number in range(12):
@@ -160,7 +171,7 @@ def links():
 
 def check_much_of_little(room):
     """A few bytes that unpack to much take little memory, and few lines."""
-    for pieces, status in ((keywords, 0), (attributes, 0), (by_turns, 0), (equal_lists, 0), (lists, 1), (deep, 0), (paths, 1),
+    for pieces, status in ((keywords, 0), (attributes, 0), (by_turns, 0), (equal_lists, 0), (lists, 1), (deep, 0), (holes, 1), (paths, 1),
                            (chain, 1), (refused_chain, 1), (ring, 1), (links, 1)):
         done = bounded(room, "pull", "oci:" + layout_of(room, pieces()).path, "a:1")
         hold("%s: %s" % (pieces.__name__, done.stderr[-300:]), status, done.returncode)
@@ -304,4 +315,5 @@ def hold_closed(room, place, line, source):
         hold("mount.strata", (32, "mount.strata: %s\n" % line), (done.returncode, done.stderr))
 
 
-CHECKS = [check_much_of_little, check_many_of_one, check_most_unpacked, check_shared_names, check_odd_words, check_odd_target, check_stores_of_others]
+CHECKS = [check_much_of_little, check_many_of_one, check_most_unpacked, check_shared_names, check_odd_words, check_odd_target,
+          check_stores_of_others]

@@ -5,6 +5,7 @@ import os
 import select
 import struct
 
+from checks.shared.mounting import hold
 from strata_format.system import called, libc
 from strata_mount.device import DEVICE, MNT_DETACH
 
@@ -24,10 +25,12 @@ class ShownFiles:
         called(libc.mount(b"shown", os.fsencode(self.at), b"fuse", 0, text.encode()))
         self.server = os.fork()
         if self.server == 0:
+            status = 1
             try:
                 self.serve()
+                status = 0
             finally:
-                os._exit(0)
+                os._exit(status)
         os.close(self.device)
 
     def path(self, name):
@@ -35,7 +38,7 @@ class ShownFiles:
 
     def end(self):
         called(libc.umount2(os.fsencode(self.at), MNT_DETACH))
-        os.waitpid(self.server, 0)
+        hold("the status of what shows the files", 0, os.waitstatus_to_exitcode(os.waitpid(self.server, 0)[1]))
 
     def size(self, name):
         raise NotImplementedError
@@ -54,7 +57,10 @@ class ShownFiles:
             if select.select([self.device], [], [], 0.002)[0]:
                 try:
                     message = os.read(self.device, 1 << 18)
-                except OSError:
+                except OSError as fault:
+                    # a request that was interrupted before it came is gone
+                    if fault.errno == errno.ENOENT:
+                        continue
                     return
                 if not self.answer(message):
                     waiting.append(message)

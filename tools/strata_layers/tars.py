@@ -9,6 +9,7 @@ header says; here the first is refused and the second bounded.
 import re
 import struct
 
+from strata_format import trailer
 from strata_format.refused import BadEntry, Refused, shown
 from strata_layers import attributes, sparse_maps
 from strata_layers.entries import (BLOCK_DEVICE, CHARACTER, DIRECTORY, FIFO, FILES, HARD, SYMBOLIC,
@@ -18,6 +19,8 @@ BLOCK = 512
 PIECE = 1 << 20
 # so long may an extended header or a long name be
 SPECIAL_MOST = 1 << 20
+# so many bytes may the holes of files have together that images hold, as what is unpacked may have
+HOLES_MOST = 1 << 34
 SPARSE = b"S"
 # what says in an extended header that a file is sparse
 SPARSE_WORDS = {*sparse_maps.KEYWORDS, sparse_maps.PAIRS}
@@ -132,6 +135,7 @@ class Tar:
         self.source, self.everywhere = source, {}
         # what is left of the data of the entry before, and of the zeros behind them
         self.left = self.zeros = 0
+        self.holes_left = HOLES_MOST
 
     # --- bytes ---
 
@@ -311,6 +315,12 @@ class Tar:
     def set_sparse(self, entry, found):
         try:
             found.check(self.left)
-            entry.size, entry.data = found.size, found.pieces(self.pieces)
         except BadEntry as bad:
             entry.wrong = BadEntry("%s: %s" % (shown(entry.name), bad))
+            return
+        entry.size, entry.data = found.size, found.pieces(self.pieces)
+        # a few bytes may say no end of holes, and all of an image is hashed
+        self.holes_left -= found.size - self.left if found.size <= trailer.END_MOST else 0
+        if self.holes_left < 0:
+            raise Refused("%s: with it the holes of sparse files have more than %d bytes"
+                          % (shown(entry.name), HOLES_MOST))

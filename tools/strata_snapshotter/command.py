@@ -12,7 +12,7 @@ import sys
 import threading
 
 from strata_format import ends, version
-from strata_format.refused import Refused
+from strata_format.refused import Refused, one_line, shown
 
 ROOT = "/var/lib/strata-snapshotter"
 SOCKET = "/run/strata-snapshotter/strata-snapshotter.sock"
@@ -114,7 +114,7 @@ def served(words, path):
     try:
         server.add_insecure_port("unix:" + os.path.abspath(path))
     except RuntimeError as fault:
-        raise Refused("%s: %s" % (path, fault)) from None
+        raise Refused("%s: %s" % (shown(path), one_line(str(fault)))) from None
     return snapshots, server
 
 
@@ -143,5 +143,5 @@ def main(words):
         ends.write("%s: %s\n" % (NAME, refused))
     except OSError as fault:
         where = fault.filename if isinstance(fault.filename, str) else words.root
-        ends.write("%s: %s: %s\n" % (NAME, where, fault.strerror or fault))
+        ends.write("%s: %s: %s\n" % (NAME, shown(where), fault.strerror or fault))
     return 1

@@ -23,3 +23,8 @@ class InvalidArgument(Fault):
 
 class Unavailable(Fault):
     """Something that is needed fails here; the same call may succeed later."""
+
+
+def why_of(fault):
+    """Why something failed, in words: Python says nothing of memory."""
+    return "out of memory" if isinstance(fault, MemoryError) else str(fault)

@@ -18,7 +18,7 @@ import time
 from strata_format.refused import Refused
 from strata_layers.verity import TREE
 from strata_snapshotter import places
-from strata_snapshotter.faults import InvalidArgument, Unavailable
+from strata_snapshotter.faults import InvalidArgument, Unavailable, why_of
 from strata_snapshotter.folder_image import write_folder_image
 from strata_snapshotter.given_image import hold_image
 from strata_snapshotter.state import Form
@@ -152,7 +152,7 @@ class ImageMaker:
                 self.settle(snapshot, lambda: self.replace(snapshot, path, digest))
         except (Refused, OSError, MemoryError) as fault:
             # what was begun is gone by now, and leaves its room on a full disk
-            why = str(fault).encode(errors="replace").decode()
+            why = why_of(fault).encode(errors="replace").decode()
             taken = places.usage(self.places.files(snapshot.id))
             self.settle(snapshot, lambda: self.stay(snapshot, why, taken))
 

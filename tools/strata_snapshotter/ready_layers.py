@@ -10,6 +10,7 @@ import os
 from strata_format.refused import Refused
 from strata_layers.verity import TREE
 from strata_snapshotter.blob_image import chain_digest, is_digest, write_blob_image
+from strata_snapshotter.faults import why_of
 from strata_snapshotter.given_image import hold_image
 
 REFERENCE = "containerd.io/snapshot.ref"
@@ -89,8 +90,8 @@ class ReadyLayers:
             archive, is_image = write_blob_image(*found, out, [it.fileno() for it in files])
             if is_image:
                 hold_image(self.program, path)
-        except (Refused, OSError) as refused:
-            logging.info("%s is unpacked: %s", digest, refused)
+        except (Refused, OSError, MemoryError) as fault:
+            logging.info("%s is unpacked: %s", digest, why_of(fault))
             return False
         finally:
             for it in files:

@@ -8,6 +8,7 @@ second, and then fails calls until it tries again. So each connection is greeted
 modules of gRPC are loaded; calls on it wait.
 """
 import contextlib
+import logging
 import os
 import select
 import socket
@@ -18,6 +19,8 @@ from strata_format.refused import Refused, shown
 
 FIRST = 3
 PIECE = 1 << 16
+# seconds until it is tried again to take a connection
+AGAIN = 0.5
 # so many bytes may the path of a socket have
 PATH_MOST = 107
 # what a server of HTTP/2 says first: its settings, of which there are none here
@@ -103,16 +106,15 @@ def pass_on_greeted(source, target):
 def joined(outer, path, is_open):
     """Greets a client, and passes bytes on between its connection and a new one to a socket, once
     that is open, until both have ended."""
-    with outer, socket.socket(socket.AF_UNIX) as inner:
-        with contextlib.suppress(OSError):
-            outer.sendall(GREETING)
-            is_open.wait()
-            inner.connect(path)
-            back = threading.Thread(target=pass_on, args=(inner, outer), daemon=True)
-            back.start()
-            pass_on_greeted(outer, inner)
-            pass_on(outer, inner)
-            back.join()
+    with outer, contextlib.suppress(OSError), socket.socket(socket.AF_UNIX) as inner:
+        outer.sendall(GREETING)
+        is_open.wait()
+        inner.connect(path)
+        back = threading.Thread(target=pass_on, args=(inner, outer), daemon=True)
+        back.start()
+        pass_on_greeted(outer, inner)
+        pass_on(outer, inner)
+        back.join()
 
 
 class Passing:
@@ -127,9 +129,14 @@ class Passing:
 
     def accept(self):
         while self.stopped not in select.select([self.listening, self.stopped], [], [])[0]:
-            connection, _ = self.listening.accept()
-            threading.Thread(target=joined, args=(connection, self.path, self.is_open),
-                             daemon=True).start()
+            try:
+                connection, _ = self.listening.accept()
+                threading.Thread(target=joined, args=(connection, self.path, self.is_open),
+                                 daemon=True).start()
+            except (OSError, RuntimeError) as fault:
+                # there are too many files or threads until others end
+                logging.error("a connection can't be taken now: %s", fault)
+                select.select([self.stopped], [], [], AGAIN)
 
     def stop(self):
         """Leaves the connections that come from now on to the next service. One that this service

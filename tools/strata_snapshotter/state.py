@@ -12,7 +12,7 @@ import json
 import sqlite3
 import time
 
-from strata_format.refused import Refused, shown
+from strata_format.refused import Refused, one_line, shown
 
 VERSION = 1
 SCHEMA = """
@@ -72,9 +72,19 @@ Lower = collections.namedtuple("Lower", "layer is_mount")
 
 
 def snapshot_of(row):
+    """The snapshot of a row; DatabaseError where it is damaged. What a snapshot lies on has a lower
+    number, so no chain is a ring."""
     at, name, parent, parent_name, kind, form, labels, *rest = row
-    return Snapshot(at, name, parent, parent_name or "", Kind(kind), Form(form),
-                    json.loads(labels), *rest)
+    try:
+        found = Snapshot(at, name, parent, parent_name or "", Kind(kind), Form(form),
+                         json.loads(labels), *rest)
+        labels = [*found.labels, *found.labels.values()]
+        is_good = all(isinstance(it, str) for it in (name, *labels)) and (parent is None or parent < at)
+    except (ValueError, TypeError, AttributeError, RecursionError):
+        is_good = False
+    if not is_good:
+        raise sqlite3.DatabaseError("damaged: snapshot %s" % at)
+    return found
 
 
 class State:
@@ -86,7 +96,7 @@ class State:
             self.prepare()
         except sqlite3.Error as fault:
             raise Refused("%s: %s; restore it, or remove it with the folder that it is in, and "
-                          "pull the images again" % (shown(path), fault)) from None
+                          "pull the images again" % (shown(path), one_line(str(fault)))) from None
 
     def prepare(self):
         self.base.execute("PRAGMA journal_mode = WAL")
@@ -102,6 +112,7 @@ class State:
             raise sqlite3.DatabaseError("has version %d instead of %d" % (version, VERSION))
         self.base.execute(SEALS)
         self.base.execute(REASONS)
+        self.every()
 
     def close(self):
         self.base.close()
