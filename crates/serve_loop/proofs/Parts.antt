@@ -3,7 +3,6 @@
 use Rattle.std.proofs.Common.{◌≡◌, ◌∙◌, sym, ap, ℕ, ◌+◌, ◌-◌, ◌≤◌, List, [], ◌++◌, append-nil, length, take, drop, arith, length-take, length-drop}
 use Rattle.std.proofs.Math.Seq.{take-add}
 use Rattle.std.proofs.lemmas.List.{drop-take, drop-drop}
-use Rattle.devices.specs.declared.limits.TheConstants.{PULL_SIZE}
 use Rattle.serve_loop.specs.Buffers.{part}
 
 part_length : (xs : List ℕ) (s e : ℕ) → length (part xs s e) ≤ e - s
@@ -48,5 +47,5 @@ pub held_unchanged : (old new kept : List ℕ) (s e : ℕ) → kept ≡ new → 
 held_unchanged old new kept s e k h q = ap (λ xs. part xs s e) k ∙ unchanged old new s e h q
 
 -- a pull gives as many bytes as it says
-pub as_many : (xs : List ℕ) (n e : ℕ) → n ≤ PULL_SIZE → e + PULL_SIZE ≤ length xs → length (take n (drop e xs)) ≡ n
-as_many xs n e h k = let l = length-take n (drop e xs) in let d = length-drop e xs in omega arith
+pub as_many : (xs : List ℕ) (n e : ℕ) → e + n ≤ length xs → length (take n (drop e xs)) ≡ n
+as_many xs n e h = let l = length-take n (drop e xs) in let d = length-drop e xs in omega arith

@@ -1,5 +1,5 @@
 -- A buffer that pulls fill.
-use Rattle.std.specs.Prelude.{◌≡◌, ℕ, ◌+◌, ◌-◌, ◌≤◌, List, [], ◌++◌, length, take, drop, Result, Ok, Err}
+use Rattle.std.specs.Prelude.{◌≡◌, ℕ, ◌-◌, ◌<◌, ◌≤◌, List, [], ◌++◌, length, take, drop, Result, Ok, Err}
 use Rattle.devices.specs.declared.failed.Failed.{Failed}
 use Rattle.devices.specs.declared.counts.Pulls.{Pulls}
 use Rattle.std.specs.Io.KnownBytes.{Consumes}
@@ -21,9 +21,9 @@ pub record IsWithinBytes {A : Type 0} (b : Buffer A) : Type 0 where
   pub ordered : b.start ≤ b.end
   pub within : b.end ≤ length b.bytes.items
 
--- there is room for one pull
+-- there is room for a pull
 pub record HasRoom {A : Type 0} (b : Buffer A) : Type 0 where
-  pub room : b.end + PULL_SIZE ≤ length b.bytes.items
+  pub room : b.end < length b.bytes.items
 
 -- a pull returned n bytes, got, or failed and returned none
 abbrev pub IsGot : Result ℕ Failed → List ℕ → Type 0

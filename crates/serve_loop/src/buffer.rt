@@ -3,9 +3,10 @@
 //! The bytes are from `start` up to `end` in a vector that keeps its length, so no pull clears
 //! memory. They are moved to the front only to make room for a pull. The remaining bytes were all
 //! pulled last, or all belong to one incomplete message, so no byte is moved more than a few times,
-//! whatever the pulls' sizes.
+//! whatever the pulls' sizes. The first room is small, and stays so until a pull has filled it: the
+//! messages of a mount come one by one and are short.
 
-ghost use Rattle.std.specs.Prelude.{◌≡◌, ◌+◌, ◌-◌, ◌<◌, ◌≤◌, length, take, drop, [], OnOk, IfOk, MatchResult};
+ghost use Rattle.std.specs.Prelude.{◌≡◌, ◌+◌, ◌-◌, ◌<◌, ◌≤◌, length, take, drop, [], IsTrue, OnOk, IfOk, MatchResult};
 ghost use Rattle.std.specs.Io.KnownBytes.{Consumes, IsAtEnd, Keeps};
 ghost use Rattle.devices.specs.Counting.{pulled};
 ghost use Rattle.devices.specs.declared.limits.TheConstants.{PULL_SIZE};
@@ -14,6 +15,9 @@ ghost use Rattle.serve_loop.specs.Buffers.{part, held_in, IsWithinBytes, HasRoom
 use devices::limits::PULL_SIZE;
 use devices::{Failed, Source};
 use std::alloc::{AllocError, Allocator};
+
+/// How long the vector is at first.
+const FIRST_SIZE: usize = 4096;
 
 /// Bytes that were pulled and are not answered yet.
 #[derive(Drop)]
@@ -63,12 +67,13 @@ impl<A: Allocator> Buffer<A> {
         ensures front { self.new.start ≡ 0 }
         ensures room { OnOk result (HasRoom self.new) }
     {
+        let is_full = self.end == self.bytes.len();
         if self.start != 0 {
             to_front(&mut self.bytes, self.start, self.end);
             self.end -= self.start;
             self.start = 0;
         }
-        grow(&mut self.bytes, self.end)
+        grow(&mut self.bytes, self.end, is_full)
     }
 
     // Pulls once into the room after the bytes that it holds.
@@ -98,36 +103,58 @@ fn to_front<A: Allocator>(bytes: &mut Vec<u8, A>, start: usize, end: usize)
 
 // Makes the vector long enough for a pull after the first `filled` bytes, and for one more if the
 // pull before left something. A source of complete messages leaves nothing.
-fn grow<A: Allocator>(bytes: &mut Vec<u8, A>, filled: usize) -> Result<(), AllocError>
+fn grow<A: Allocator>(
+    bytes: &mut Vec<u8, A>,
+    filled: usize,
+    is_full: bool,
+) -> Result<(), AllocError>
     requires { filled ≤ length bytes.old.items }
     ensures same { take filled bytes.new.items ≡ take filled bytes.old.items }
     ensures within { filled ≤ length bytes.new.items }
-    ensures room { OnOk result (filled + PULL_SIZE ≤ length bytes.new.items) }
+    ensures room { OnOk result (filled < length bytes.new.items) }
 {
     let len = bytes.len();
-    if len - filled < PULL_SIZE {
-        let wanted = if filled == 0 {
-            PULL_SIZE
-        } else {
-            filled + 2 * PULL_SIZE
-        };
+    if is_enough(len, filled, is_full) {
+        return Ok(());
+    }
+    let wanted = if len == 0 {
+        FIRST_SIZE
+    } else if filled == 0 {
+        PULL_SIZE
+    } else {
+        filled + 2 * PULL_SIZE
+    };
+    if len < wanted {
         bytes.reserve_exact(wanted - len)?;
         bytes.resize(wanted, 0)?;
     }
     Ok(())
 }
 
-// Pulls once into the room of one pull that begins at this place.
+// Whether a vector of this length has room for a pull after the first `filled` bytes. Its first
+// room is enough until a pull has filled it.
+fn is_enough(len: usize, filled: usize, is_full: bool) -> bool
+    ensures { IsTrue result → filled < len }
+{
+    if len <= filled {
+        return false;
+    }
+    PULL_SIZE <= len - filled || (len == FIRST_SIZE && !is_full)
+}
+
+// Pulls once into the room that begins at this place, or as much of it as a pull may take.
 fn pull_at<S: Source>(source: &mut S, bytes: &mut [u8], at: usize) -> Result<usize, Failed>
-    requires { at + PULL_SIZE ≤ length bytes.old }
+    requires { at < length bytes.old }
     ensures front { take at bytes.new ≡ take at bytes.old }
     ensures same { length bytes.new ≡ length bytes.old }
     ensures gives { MatchResult result
         (λ n. (n ≤ PULL_SIZE)
         × Consumes (S.state source.old).left (S.state source.new).left (take n (drop at bytes.new)))
         (λ _. Keeps (S.state source.old).left (S.state source.new).left) }
+    ensures within { IfOk result (λ n. at + n ≤ length bytes.new) }
     ensures counts { (S.state source.new).counts ≡ pulled (S.state source.old).counts result }
     ensures end { IfOk result (λ n. n ≡ 0 → IsAtEnd (S.state source.new).left) }
 {
-    source.pull(&mut bytes[at..at + PULL_SIZE])
+    let room = (bytes.len() - at).min(PULL_SIZE);
+    source.pull(&mut bytes[at..at + room])
 }

@@ -143,10 +143,10 @@ fn sinks_fail(rt: HostRuntime) {
 #[test]
 fn pulls_and_rounds_are_not_larger(rt: HostRuntime) {
     for (stream, messages, reads, writes) in [
-        // 16 pulls of 65,536 bytes, one of 32, and the end.
+        // Pulls of 4,096 bytes, 15 times 65,536, and 61,472; and the end.
         (Stream::Forgets, 21_846, 18, 0),
-        // Rounds of 256, 256 and 1; a pull of 28,728 bytes, and the end.
-        (Stream::Many, 513, 2, 6),
+        // Pulls of 4,096 bytes, in a round of 73, and 24,632, in rounds of 256 and 184; and the end.
+        (Stream::Many, 513, 3, 6),
     ] {
         let row = Run {
             stream,
