@@ -153,8 +153,9 @@ fn draw_all<
     (both(pieces, more), hand)
 }
 
-// Tables may be lent to other threads. It does nothing; its clause spares `join` a long search.
-fn lend_tables<A: Allocator + Sync>()
+/// Tables may be lent to other threads. It does nothing: its clause spares a caller's prover a long
+/// search where a closure that holds a table goes to another thread.
+pub fn lend_tables<A: Allocator + Sync>()
     ensures { IsSync (the_row A.row A.Allocator) }
 {}
 
