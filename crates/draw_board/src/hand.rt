@@ -11,6 +11,6 @@ pub struct Hand {
     pub(crate) misses: u32,
 }
 
-/// The hand has too few misses to give this many and keep one.
+/// A hand was to give no misses, or has too few to give this many and keep one.
 #[derive(Clone, Copy, Debug, PartialEq, Eq)]
 pub struct Few;

@@ -1,8 +1,8 @@
 //! Answers written as replies.
 
 ghost use Rattle.fuse_wire.specs.Replies.{reply_with};
-ghost use Rattle.std.specs.Prelude.{◌≡◌, ◌+◌, ◌≤◌};
-ghost use Rattle.fuse_answer.specs.Answers.{HoldsOwnData, IsInFile, IsSized, answer_data, answer_reading, node_data, part_data};
+ghost use Rattle.std.specs.Prelude.{◌≡◌, ◌+◌, ◌<◌, ◌≤◌};
+ghost use Rattle.fuse_answer.specs.Answers.{HoldsOwnData, IsSized, answer_data, answer_reading, node_data};
 ghost use Rattle.fuse_answer.specs.Puts.{sourced_by};
 ghost use Rattle.fuse_wire.specs.Appends.{Appends};
 ghost use Rattle.fuse_wire.specs.Told.{AppendsTold};
@@ -11,7 +11,7 @@ ghost use Rattle.stack_model.specs.Attributes.{data_of};
 ghost use Rattle.node_reader.specs.Readers.{placed};
 
 use crate::names::put_names;
-use crate::outcome::{Answer, FilePart};
+use crate::outcome::Answer;
 use crate::rows::put_rows_and_move;
 use crate::served::Served;
 use devices::Contents;
@@ -47,7 +47,7 @@ pub(crate) fn write<A: Allocator, D: Contents, O: Allocator>(
         Answer::Attributes(attr) => put_attr(out, unique, attr),
         Answer::Opened(flags) => put_open(out, unique, *flags),
         Answer::Target(node) => put_target(served.table, unique, node, out),
-        Answer::Data(part) => put_part(served, unique, part, out),
+        Answer::Data(part) => put_part(served, unique, *part.node, part.offset, part.len, out),
         Answer::Size(size) => put_xattr_size(out, unique, *size),
         Answer::Value(value) => put_data(out, unique, value),
         Answer::Names(names) => put_names(out, unique, names),
@@ -61,41 +61,27 @@ pub(crate) fn write<A: Allocator, D: Contents, O: Allocator>(
 fn put_part<A: Allocator, D: Contents, O: Allocator>(
     served: Served<'_, A, D>,
     unique: u64,
-    part: &FilePart<'_>,
+    node: Node,
+    offset: u64,
+    len: u32,
     out: &mut Replies<O>,
 ) -> Result<(), AllocError>
-    requires { IsInFile served.table.now part.now }
+    requires holds { HoldsOwnData served.table.now node }
+    requires within { 0 < len → offset + len ≤ node.part.len }
     ensures { AppendsTold result out.old out.new
-        (data_reading (sourced_by D.source served.entry) part.now.offset
-        (placed part.now.node.now.place)) unique
-        (reply_with unique (part_data served.entry.table.now part.now)) }
+        (data_reading (sourced_by D.source served.entry) offset (placed node.place)) unique
+        (reply_with unique (node_data served.entry.table.now node offset len)) }
 {
-    if part.len == 0 {
+    if len == 0 {
         return put_data(out, unique, &[]);
     }
-    let node = part.node;
     match served.files.get(node.place.layer as usize) {
         Some(file) => {
-            let start = u64::from(data_start(node));
-            put_read(out, unique, file, start + part.offset, part.len as usize)
+            let start = u64::from(node.part.start);
+            put_read(out, unique, file, start + offset, len as usize)
         }
-        None => put_held(
-            served.table,
-            unique,
-            node,
-            part.offset as u32,
-            part.len,
-            out,
-        ),
+        None => put_held(served.table, unique, &node, offset as u32, len, out),
     }
-}
-
-// The offset of a node's data in the image of its layer.
-#[inline(always)]
-fn data_start(node: &Node) -> u32
-    ensures { result ≡ node.now.part.start }
-{
-    node.part.start
 }
 
 // Appends the reply with the target of a link.

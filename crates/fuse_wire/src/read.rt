@@ -15,6 +15,9 @@ use std::alloc::{AllocError, Allocator};
 /// growth; if there are some and they cannot be read in full, appends the reply with EIO. Data are
 /// read straight into the reply, and no other memory of the replies is exposed.
 ///
+/// In the clause `bytes` are the data that the reply is defined to have, and only their number
+/// matters: the data that are appended are those that reads returned, whatever `bytes` are.
+///
 /// `AllocError` only if there is no room for the reply and memory is refused; nothing changes then,
 /// and nothing is read.
 pub fn put_read<A: Allocator, D: Contents>(

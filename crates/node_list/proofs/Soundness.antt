@@ -1,8 +1,10 @@
--- The first images of some are sound: that is what a loop over all images keeps.
-use Rattle.std.proofs.Common.{◌≡◌, ℕ, ◌<◌, List, Some}
-use Rattle.std.specs.Prelude.{slice_get}
+-- Sound images: all of a list, and so the one at each place.
+use Rattle.std.proofs.Common.{ℕ, List}
+use Rattle.std.specs.List.{AllByRecursion}
 use Rattle.romfs_reader.specs.Images.{IsImage}
+use Rattle.layer_paths.proofs.Lists.{all_get}
+use Rattle.node_list.specs.Below.{AreImages}
 
--- the layers before the i-th are sound images
-pub record AreImagesTo (layers : List (List ℕ)) (i : ℕ) : Type 0 where
-  pub each : (k : ℕ) (a : List ℕ) → k < i → slice_get layers k ≡ Some a → IsImage a
+-- if all layers are sound images, the one at each place is
+pub are_images : (layers : List (List ℕ)) → AllByRecursion IsImage layers → AreImages layers
+are_images layers sound = record { each = λ i a is. all_get IsImage layers i a sound is }

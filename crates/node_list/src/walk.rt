@@ -1,7 +1,6 @@
 //! The walk over all paths of a table.
 
-ghost use Rattle.std.specs.Prelude.{◌≡◌, ◌<◌, ◌≤◌, ◌^◌, [], OnOk, IfErr};
-ghost use Rattle.node_list.specs.Below.{AreImages};
+ghost use Rattle.std.specs.Prelude.{◌≡◌, ◌<◌, ◌^◌, [], OnOk, IfErr};
 ghost use Rattle.node_list.specs.Lines.{lines};
 ghost use Rattle.node_list.specs.Faults.{Lists, IsBrokenOff};
 ghost use Rattle.node_list.specs.Walks.{passage, Puts, PutsBelow, IsOnWay, line_as};
@@ -138,23 +137,10 @@ impl<A: Allocator> Room<A> {
             (passage (K.state sink.new) self.new.waiting.items)
             (lines table.now) }
     {
-        are_images(table);
         if table.len() == 0 {
             return Ok(());
         }
         self.put_line(sink, table, 1, path.printed())?;
         self.put_below(sink, table, 1, path)
-    }
-}
-
-// States that each image keeps all rules, and does nothing else: the contract of a call on an image
-// says so of that image.
-fn are_images<A: Allocator>(table: &Table<A>)
-    ensures { AreImages table.now.layers }
-{
-    for layer in 0..table.layer_count() {
-        if let Some(view) = table.view(layer) {
-            let _full = view.full();
-        }
     }
 }

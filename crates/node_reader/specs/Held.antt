@@ -1,8 +1,9 @@
 -- What a table keeps, and how it agrees with the listing of its layers.
 use Rattle.std.specs.Prelude.{◌≡◌, ℕ, ◌≤◌, List, [], length, map, slice_get, slice_range, nat_eq, All, Bool, Option, Some, None, unwrap_or, true, false, not, if◌then◌else◌}
-use Rattle.std.specs.List.{list_any, slice_index_or}
+use Rattle.std.specs.List.{AllByRecursion, list_any, slice_index_or}
 use Rattle.std.specs.Option.{option_map_or, option_and_then}
 use Rattle.romfs_format.specs.declared.attribute_row.AttributeRow.{AttributeRow}
+use Rattle.romfs_reader.specs.Images.{IsImage}
 use Rattle.romfs_rows.specs.Order.{position_at}
 use Rattle.stack_model.specs.Listing.{Entry, IsListing, Stacked, stacked}
 use Rattle.stack_model.specs.Numbers.{Place as ModelPlace, nodes, number, parent}
@@ -131,10 +132,11 @@ pub record AreNodes (stack : Stacked) (held : List Node) (directories : HeldDire
   pub each : (k : ℕ) (node : Node) (p : ModelPlace) → slice_get held k ≡ Some node
       → slice_get (nodes stack.entries) k ≡ Some p → IsNode stack directories node p
 
--- a table of the stack's layers and their listing. The nodes say what headers do, whatever rows
--- there are
+-- a table of the stack's layers, which are sound images, and their listing. The nodes say what
+-- headers do, whatever rows there are
 pub record IsTable (stack : Stacked) (held : List Node) (directories : HeldDirectories)
     (blocks : ℕ) : Type 0 where
+  pub sound : AllByRecursion IsImage stack.layers
   pub listing : IsListing stack.layers stack.entries
   pub are : AreNodes (stacked stack.layers stack.entries) held directories
   pub blocks_are : blocks ≡ blocks_all stack.layers

@@ -1,7 +1,8 @@
 //! The table of a stack.
 
 ghost use Rattle.std.specs.Prelude.{◌≡◌, ◌<◌, ◌+◌, ◌^◌, [], length, true, slice_get, Some, None, MatchOption, IfOk, IfSome};
-ghost use Rattle.romfs_reader.specs.Images.{all_whole, bytes_of};
+ghost use Rattle.std.specs.List.{AllByRecursion};
+ghost use Rattle.romfs_reader.specs.Images.{IsImage, all_whole, bytes_of};
 ghost use Rattle.stack_model.specs.Listing.{IsListing};
 ghost use Rattle.stack_model.specs.Numbers.{nodes};
 ghost use Rattle.romfs_format.specs.Extended.{is_list};
@@ -146,6 +147,7 @@ impl<A: Allocator> Table<A> {
     pub fn len(&self) -> u64
         ensures value { result ≡ length (nodes self.now.entries) }
         ensures listing { IsListing self.now.layers self.now.entries }
+        ensures sound { AllByRecursion IsImage self.now.layers }
     {
         self.nodes.len() as u64
     }

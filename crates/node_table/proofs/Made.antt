@@ -4,12 +4,13 @@
 use Rattle.std.proofs.Common.{◌≡◌, ◌∙◌, sym, ap, subst, ℕ, ◌+◌, ◌-◌, ◌^◌, ◌<◌, inl, inr, List, [], ◌∷◌, ◌++◌, length, take, get_or, map, refl, arith, length-append, Bool, true, false, cond, Some}
 use Rattle.std.specs.Prelude.{slice_get, slice_index, min, count_by}
 use Rattle.std.specs.Bool.{MatchBool}
-use Rattle.std.specs.List.{slice_index_or}
+use Rattle.std.specs.List.{AllByRecursion, slice_index_or}
 use Rattle.std.proofs.lemmas.List.{length-map, take_at}
 use Rattle.std.proofs.lemmas.Option.{slice_get_within, get_or_from_slice_get}
 use Rattle.romfs_format.specs.declared.head.Kind.{Kind}
 use Rattle.romfs_format.specs.declared.head.Kind.TheVariants.{HardLink, Directory as DirectoryKind, Regular, SymLink, Block, Character, Socket, Fifo}
 use Rattle.romfs_format.specs.Fields.{kind, exec, size, spec}
+use Rattle.romfs_reader.specs.Images.{IsImage}
 use Rattle.romfs_reader.specs.Readers.{data_size, data_start_of}
 use Rattle.stack_model.specs.Listing.{Entry as Listed}
 use Rattle.stack_model.specs.Numbers.{Place as ModelPlace, Child, place, same_place, nodes, children}
@@ -292,11 +293,13 @@ nodes_ended {layers} {entries} {first = first} {made = made} {directories = dire
 
 -- all nodes, completed, with what is kept about directories and the sum of blocks are what a table keeps
 pub table_made : (layers : List (List ℕ)) (made new tail : List Node) (directories : HeldDirectories) (n blocks : ℕ)
+    → AllByRecursion IsImage layers
     → AreMade layers made directories → new ≡ map completed made → n ≡ length new → blocks ≡ blocks_all layers
     → IsSomeTable layers (take n (new ++ tail)) directories blocks
-table_made layers made new tail directories n blocks (entries, listing, are) done len sum = (
+table_made layers made new tail directories n blocks sound (entries, listing, are) done len sum = (
   entries,
   record {
+    sound = sound;
     listing = listing;
     are = subst (λ x. AreNodes (stacked layers entries) x directories)
         (sym (take_at new tail n (sym len) ∙ done)) are;

@@ -120,6 +120,7 @@ fn read_all<A: Allocator + Copy>(
     requires tree { IsTreeOf 0 (bytes_of layers.now) tree.now }
     requires few { length layers.now ≤ MAX_LAYERS }
     ensures blocks { IfOk result (λ it. it.0 ≡ blocks_all (bytes_of layers.now)) }
+    ensures sound { IfOk result (λ _. AllByRecursion IsImage (bytes_of layers.now)) }
     ensures made { IfOk result (λ it.
         AreMade (bytes_of layers.now) it.1.nodes.items it.1.directories) }
 {

@@ -1,8 +1,9 @@
 //! The files of images, several at the same time if the list is long.
 //!
-//! A list is cut in two, and a long half once more; each part is read from its lowest image up, and
-//! the results of two halves are joined: a fault of the lower half (memory, or an image that cannot
-//! be read) comes before one of the upper. All images below the reported one were therefore read.
+//! A list of eight or more is cut in two, and so is a half of eight or more; a shorter one is read
+//! as it is. Each part is read from its lowest image up, and the results of two halves are joined:
+//! a fault of the lower half (memory, or an image that cannot be read) comes before one of the
+//! upper. All images below the reported one were therefore read.
 
 ghost use Rattle.std.specs.Prelude.{◌≡◌, ◌⊎◌, ◌+◌, ◌<◌, ◌^◌, ℕ, List, ◌++◌, get_or, length, vec_len, Option, None, Some, Ok, IfOk, IfErr, OnOk};
 ghost use Rattle.romfs_files.specs.Files.{IsLoadedOf};
@@ -70,13 +71,14 @@ impl<T: Drop> From<AllocFailed<T>> for FilesFault {
 /// be any number of them. An image with a digest is read under it, with the tree in the file whose
 /// name has `.verity` added.
 ///
-/// At most four parts of a long list are read at the same time. If several files cannot be read,
-/// the lowest is reported, provided there was memory for all below it. `Unread` if a file cannot be
-/// opened, for example because too many are open; if a read fails or gives fewer bytes than the
-/// file reported; or if a device reports no end. A full size beyond the end of the file is no fault
-/// here. `Unsealed` if an image or its tree is not the one that the digest names, or cannot be
-/// read; no byte of a pipe is read. `Far` if a trailer that is read ends at 2^32 or beyond, and not
-/// all bytes are read: under a digest, only if it does so in the named file.
+/// At most four parts of a long list are read at the same time. The fault of one file that cannot
+/// be read is reported: the lowest such file's if there was memory for all below it, but no clause
+/// says which. `Unread` if a file cannot be opened, for example because too many are open; if a
+/// read fails or gives fewer bytes than the file reported; or if a device reports no end. A full
+/// size beyond the end of the file is no fault here. `Unsealed` if an image or its tree is not the
+/// one that the digest names, or cannot be read; no byte of a pipe is read. `Far` if a trailer that
+/// is read ends at 2^32 or beyond, and not all bytes are read: under a digest, only if it does so
+/// in the named file.
 pub fn load<R: Files + Threads + Sync, A: Allocator + Copy + Send + Sync>(
     rt: &R,
     alloc: A,

@@ -15,7 +15,7 @@
 //! (`romfs_seal`), whose name is the image's with `.verity` added ([`load_sealed`]).
 //!
 //! Up to four parts of a long list are read at the same time. The lowest image that cannot be read
-//! is reported.
+//! is reported, unless memory runs out; no clause says that it is the lowest.
 //!
 //! The private modules: `images` divides a list among threads; `opening` loads one file by its
 //! kind; `whole` reads all of one; `loaded` and `image_data` have the results. No clause knows a

@@ -16,7 +16,8 @@ use Rattle.serve_loop.specs.declared.opening.Until.TheVariants as wanted
 use Rattle.serve_loop.specs.declared.stream_fault.StreamFault.{StreamFault}
 use Rattle.serve_loop.specs.declared.stream_fault.StreamFault.TheVariants.{Read, Turns}
 
--- these bytes are not complete messages after which the session has begun
+-- if these bytes are complete messages, and at least one, the session is still fresh after them;
+-- nothing is said of other bytes
 pub record HasNotBegun (by : Answering) (bytes : List ℕ) : Type 0 where
   pub fresh : (messages : List (List ℕ)) → IsSplit bytes messages [] → 0 < length messages
       → is_fresh (session_at by.first (map asked messages)) ≡ true

@@ -121,7 +121,9 @@ pub record IsServed {A : Type 0} (by : Answering) (nodes : ℕ) (t : Trace) (mes
   pub written : done.written ≡ length t.put
   pub balanced : AreBalances (moves_of by messages) nodes done.balances.items
 
--- why serving stopped, and where
+-- why serving stopped, and where. Nothing more is known after Write or Memory than IsRun says of
+-- every end: begun, that the bytes pushed are a prefix of the replies, and counted, that the sink
+-- failed exactly if the fault is Write
 abbrev pub IsStopped : Answering → ℕ → Trace → List (List ℕ) → List ℕ → StreamFault → Type 0
 IsStopped by turns t messages rest (BadLength at len) =
     IsBad rest len × (at ≡ length (joined messages)) × IsAllTold by t messages
@@ -160,8 +162,8 @@ pub record IsCounted {A : Type 0} (turns : ℕ) (t : Trace)
   pub read : t.source.failures ≡ t.source_before.failures + read_failures result
   pub write : t.sink.failures ≡ t.sink_before.failures + write_failures result
 
--- all replies to what was pulled before the last pull were flushed, and there was no bad length in
--- it
+-- what was pulled before the last pull has no bad length, and all replies to its messages were
+-- flushed
 pub record IsPrompt (by : Answering) (t : Trace) : Type 0 where
   pub messages : List (List ℕ)
   pub rest : List ℕ

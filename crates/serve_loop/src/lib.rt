@@ -9,10 +9,9 @@
 //! to its end.
 //!
 //! The loop knows how messages are framed and that a session continues from request to request, but
-//! no image and no node. It takes memory for the balances, one number of 128 bits a node, for a
-//! buffer of one message and two pulls, and for a round's replies. Each of the latter two grows up
-//! to about 1.25 MiB, whatever the stream; replies from workers have as much room as their pieces
-//! take.
+//! no image and no node. It takes memory at once for the balances, one number of 128 bits a node,
+//! and about 1.25 MiB for a round's replies, which grow only if workers' pieces need more; and as
+//! messages come for a buffer, at most one message and two pulls, about 1.13 MiB.
 #![tactic(auto)]
 
 mod buffer;

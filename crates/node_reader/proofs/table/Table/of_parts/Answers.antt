@@ -16,7 +16,7 @@ invariant_of-result-2 g c =
     let table = subst (λ (e : List Entry). IsTable (stacked layers e) c.args.nodes.items c.args.directories c.args.blocks)
     (ap (λ x. x.0) (listed_once layers mine c.result-1.given.0)) c.requires.1 in
     record {
-      table = record { listing = table.listing; are = table.are; blocks_are = table.blocks_are };
+      table = record { sound = table.sound; listing = table.listing; are = table.are; blocks_are = table.blocks_are };
       briefs_are = rw (c.deref-2.ensures.value, c.deref-3.ensures.value, ← c.deref-4.ensures.value, ← c.in_ok-stamped.ensures.rows)
           at c.in_ok-briefs.ensures;
       stamps_are = rw (c.deref-5.ensures.value, ← c.in_ok-stamped.ensures.rows) at c.in_ok-stamped.ensures.stamps;
