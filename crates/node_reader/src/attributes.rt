@@ -59,7 +59,7 @@ pub(crate) fn briefs_of<A: Allocator + Copy>(
 }
 
 // The row at a position among those of a layer.
-pub(crate) fn row_at<A: Allocator>(
+fn row_at<A: Allocator>(
     rows: &[Rows<A>],
     layer: usize,
     position: Option<u32>,
@@ -71,7 +71,7 @@ pub(crate) fn row_at<A: Allocator>(
 }
 
 // The row of a place among those of its layer.
-fn row_of<A: Allocator>(
+pub(crate) fn row_of<A: Allocator>(
     rows: &[Rows<A>],
     next: &mut NextRows<A>,
     place: Place,

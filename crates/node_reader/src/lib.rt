@@ -4,10 +4,10 @@
 //! A [`Table`] represents a stack: its layers, and the listing of their visible paths. Each reader
 //! follows the definitions of `stack_model`, as `specs/Readers.antt` combines them, for every
 //! number up to 2^64 - 1, and takes no memory. The invariant of a table says what its parts must
-//! say about the listing (`specs/Held.antt`). Rows of attributes come as `romfs_rows` reads them
-//! and are kept in another form: owners and times by the numbers of nodes, 20 bytes each, and 12
-//! bytes a row for the rest (`specs/Stamps.antt`). Extended attributes stay as `romfs_rows` keeps
-//! them, and a node has the position of its row (`specs/Xattrs.antt`).
+//! say about the listing (`specs/Held.antt`). Rows of attributes come as `romfs_rows` reads them;
+//! kept are the owners and times of nodes, 20 bytes each (`specs/Stamps.antt`), and the rows
+//! themselves for clauses alone. Extended attributes stay as `romfs_rows` keeps them, and a node
+//! has the position of its row (`specs/Xattrs.antt`).
 //!
 //! `node_table` makes tables. It is another crate, so what answers from a table is proved beside
 //! its making, not after it. The crate uses `layer_paths` for places, `romfs_reader` for images,
@@ -22,8 +22,6 @@ mod lookup;
 mod next_rows;
 mod node;
 mod row;
-mod slim_row;
-mod slim_rows;
 mod stamp;
 mod stamped_rows;
 mod table;

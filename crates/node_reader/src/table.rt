@@ -33,10 +33,9 @@ use std::marker::Model;
 ///
 /// Each node and row takes at most 113 bytes besides a name of more than 22 (16 of them for guesses
 /// of places), and a directory 32 more. If any layer has a row of attributes, each node takes 20
-/// more, and such a row 12, or 32 if it belongs to no node. If any layer has lists of extended
-/// attributes, each node takes 4 more, each row of a layer with lists 4 more, and the lists what
-/// they take in the image. No reader takes memory, and each answers for every number: 1 is the
-/// root, and a number that is not in use has nothing.
+/// more. If any layer has lists of extended attributes, each node takes 4 more, each row of a layer
+/// with lists 4 more, and the lists what they take in the image. No reader takes memory, and each
+/// answers for every number: 1 is the root, and a number that is not in use has nothing.
 ///
 /// ```text
 /// if let Some(number) = table.child(1, b"etc") {
@@ -59,7 +58,7 @@ pub struct Table<A: Allocator> {
     nodes: Vec<Node, A>,
     // The attributes of the nodes, in the same order.
     briefs: Vec<Brief, A>,
-    // The rows of attributes of each layer, and the stamps of the nodes, in the same order.
+    // The stamps of the nodes, in the same order; for clauses the rows of attributes of each layer.
     rows: StampedRows<A>,
     xattrs: NodeXattrs<A>,
     owner: Owner,

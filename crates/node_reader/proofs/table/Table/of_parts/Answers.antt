@@ -17,10 +17,10 @@ invariant_of-result-2 g c =
     (ap (λ x. x.0) (listed_once layers mine c.result-1.given.0)) c.requires.1 in
     record {
       table = record { sound = table.sound; listing = table.listing; are = table.are; blocks_are = table.blocks_are };
-      briefs_are = rw (c.deref-2.ensures.value, c.deref-3.ensures.value, ← c.deref-4.ensures.value, ← c.in_ok-stamped.ensures.rows)
+      briefs_are = rw (c.deref-2.ensures.value, c.deref-3.ensures.value, ← c.in_ok-stamped.ensures.rows)
           at c.in_ok-briefs.ensures;
-      stamps_are = rw (c.deref-5.ensures.value, ← c.in_ok-stamped.ensures.rows) at c.in_ok-stamped.ensures.stamps;
-      xattrs_are = rw (c.deref-7.ensures.value, c.deref-6.ensures.value, ← c.deref-4.ensures.value, ← c.in_ok-stamped.ensures.rows)
+      stamps_are = rw (c.deref-4.ensures.value, ← c.in_ok-stamped.ensures.rows) at c.in_ok-stamped.ensures.stamps;
+      xattrs_are = rw (c.deref-6.ensures.value, c.deref-5.ensures.value, ← c.in_ok-stamped.ensures.rows)
           at c.in_ok-xattrs.ensures.are;
       noted = rw c.deref.ensures.value at c.in_ok-hints.ensures.noted;
     }
@@ -30,7 +30,7 @@ returns-clause-stack g c =
     let mine : Listed (bytes_of c.args.layers.items) = (c.requires.0, ∣ c.requires.1.listing ∣₁) in
     record {
       layers_are = refl;
-      rows_are = rw c.deref-4.ensures.value at c.in_ok-stamped.ensures.rows;
+      rows_are = c.in_ok-stamped.ensures.rows;
       lists_are = c.in_ok-xattrs.ensures.lists;
       owner_is = refl;
       listing = subst (λ (e : List Entry). IsListing (bytes_of c.args.layers.items) e)
