@@ -1,5 +1,6 @@
 -- A file that was read in full is each file with its digest, or a twin was met (read_or_forged).
-use Rattle.std.proofs.Common.{◌≡◌, ◌∙◌, sym, ap, subst, ℕ, zero, suc, ◌*◌, ◌+◌, ◌/◌, ◌%◌, ◌^◌, ◌<◌, ◌≤◌, List, length, slice_index, arith, inl, inr, ◌⊎◌, ext_get_or}
+use Rattle.std.proofs.Common.{◌≡◌, ◌∙◌, sym, ap, subst, ℕ, zero, suc, ◌*◌, ◌+◌, ◌/◌, ◌%◌, ◌^◌, ◌<◌, ◌≤◌, List}
+use Rattle.std.proofs.Common.{length, slice_index, arith, inl, inr, ◌⊎◌, ext_get_or}
 use Rattle.std.proofs.lemmas.Bool.{cases_lt}
 use Rattle.devices.specs.declared.algorithm.Algorithm.{Algorithm}
 use Rattle.devices.specs.Tree.{Hash, IsDigest, HasLevels, digest_size, root}
@@ -45,7 +46,8 @@ byte_or_forged s sized ys small y place byte v =
           let below : place / 4096 < n = omega (arith, within, size) in
           let top : v.top ≡ root a h v.levels bs n =
           found ∙ root_some a h y.levels bs n (omega (arith, below)) ∙ ap (λ k. root a h k bs n) levels in
-          elim (bound_or_forged a h sized v.levels bs n v.top (place / 4096) v.of (blocks-file ys (y.bytes)) below (has.enough) top (v.vouched)) [
+          let bytes = blocks-file ys (y.bytes) in
+          elim (bound_or_forged a h sized v.levels bs n v.top (place / 4096) v.of bytes below (has.enough) top (v.vouched)) [
             | inr forged ↦ inr (record { twins = inr forged })
             | inl right ↦
                 let split : 4096 * (place / 4096) + place % 4096 ≡ place = omega arith in
