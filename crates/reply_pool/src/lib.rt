@@ -23,4 +23,4 @@ pub use pool::Pool;
 pub use reply_rounds::{Gathered, Piece, Plan, RoundPieces, Rounded};
 pub use spread::spread_out;
 pub use worker::work;
-pub use workers::{lend_tables, round};
+pub use workers::round;

@@ -12,7 +12,6 @@ ghost use Rattle.std.specs.Thread.{IsSync};
 ghost use denote.Param.Send.{IsSend, Frees};
 ghost use Rattle.serve_loop.specs.declared.limits.TheConstants.{MAX_ROUND_MESSAGES};
 ghost use Rattle.draw_board.specs.declared.limits.TheConstants.{MAX_BATCH};
-ghost use Rattle.node_reader.specs.contracts.table.Table.{the_row};
 ghost use Rattle.draw_board.specs.Hands.{KeepsShare};
 ghost use Rattle.fuse_answer.specs.Puts.{sourced_by};
 ghost use Rattle.reply_rounds.specs.Batches.{AreLight};
@@ -125,7 +124,6 @@ fn draw_all<
     let Ok(other) = board.split(&mut hand, high) else {
         unreachable!()
     };
-    lend_tables::<A>();
     let (mine, others) = join(
         rt,
         move || -> (Result<Vec<Piece<A>, A>, AllocError>, Hand)
@@ -152,12 +150,6 @@ fn draw_all<
     board.rejoin(&mut hand, other);
     (both(pieces, more), hand)
 }
-
-/// Tables may be lent to other threads. It does nothing: its clause spares a caller's prover a long
-/// search where a closure that holds a table goes to another thread.
-pub fn lend_tables<A: Allocator + Sync>()
-    ensures { IsSync (the_row A.row A.Allocator) }
-{}
 
 // The pieces of two hands, if neither lacks memory.
 fn both<A: Allocator>(

@@ -14,7 +14,6 @@ ghost use Rattle.serve_device.specs.Readers.{AreServedBy, HasServed, shared_of};
 use crate::ends::{End, first_told};
 use crate::seat::Seat;
 use devices::Contents;
-use reply_pool::lend_tables;
 use serve_core::{Begun, Done, Gate, Serving, SharedAllocator, Terms};
 use std::io::{Read, Write};
 use std::thread::{Threads, for_each_mut};
@@ -83,7 +82,6 @@ where
                 (seat_of I.remaining seat.entry.now) (seat_of I.remaining seat.exit.now) }
         { seat.serve(rt, alloc, serving) };
         let readers = seats.len();
-        lend_tables::<A>();
         for_each_mut(rt, seats, readers, &serve);
     }
 }
