@@ -4,3 +4,4 @@ pub mod Noting
 pub mod Pushed
 pub mod Stamps
 pub mod NodeLists
+pub mod Shared
