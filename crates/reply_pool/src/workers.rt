@@ -10,6 +10,7 @@
 ghost use Rattle.std.specs.Prelude.{◌≡◌, ◌≤◌, length, IfOk};
 ghost use Rattle.std.specs.Thread.{IsSync};
 ghost use denote.Param.Send.{IsSend, Frees};
+ghost use Rattle.node_reader.specs.contracts.table.Table.{the_row};
 ghost use Rattle.serve_loop.specs.declared.limits.TheConstants.{MAX_ROUND_MESSAGES};
 ghost use Rattle.draw_board.specs.declared.limits.TheConstants.{MAX_BATCH};
 ghost use Rattle.draw_board.specs.Hands.{KeepsShare};
@@ -107,7 +108,8 @@ fn draw_all<
     gate: &G,
     workers: u32,
 ) -> (Result<Vec<Piece<A>, A>, AllocError>, Hand)
-    requires { CanDraw jobs.now size board.now hand workers }
+    requires draws { CanDraw jobs.now size board.now hand workers }
+    requires lent { IsSync (the_row A.row A.Allocator) }
     ensures hand { KeepsShare board.now hand result.1 }
     ensures pieces { IfOk result.0
         (λ pieces. HasAll (sourced_by D.source served.entry) jobs.now size board.now result.1
@@ -128,7 +130,8 @@ fn draw_all<
         rt,
         move || -> (Result<Vec<Piece<A>, A>, AllocError>, Hand)
             requires { IsSync R.row × IsSync G.row × IsSync D.row × IsSync A.row × IsSend A.row
-                × Frees A.Allocator A.dealloc_token × CanDraw jobs.now size board.now hand low }
+                × Frees A.Allocator A.dealloc_token × CanDraw jobs.now size board.now hand low
+                × IsSync (the_row A.row A.Allocator) }
             ensures hand { KeepsShare board.entry.now hand result.1 }
             ensures pieces { IfOk result.0 (λ pieces.
                 HasAll (sourced_by D.source served.entry) jobs.entry.now size board.entry.now
@@ -137,7 +140,8 @@ fn draw_all<
         { draw_all(rt, alloc, served, jobs, size, board, hand, gate, low) },
         move || -> (Result<Vec<Piece<A>, A>, AllocError>, Hand)
             requires { IsSync R.row × IsSync G.row × IsSync D.row × IsSync A.row × IsSend A.row
-                × Frees A.Allocator A.dealloc_token × CanDraw jobs.now size board.now other high }
+                × Frees A.Allocator A.dealloc_token × CanDraw jobs.now size board.now other high
+                × IsSync (the_row A.row A.Allocator) }
             ensures hand { KeepsShare board.entry.now other result.1 }
             ensures pieces { IfOk result.0 (λ pieces.
                 HasAll (sourced_by D.source served.entry) jobs.entry.now size board.entry.now

@@ -22,19 +22,19 @@ returns-then-workers-le1-clause-pieces g t c =
     IfOk-weaker c.work-pieces.result _ _
     (λ pieces worked. fresh_all (sourced_by g.D.Contents.source c.args.served) c.args.jobs.now c.args.size c.args.board.now c.args.hand
     c.work-pieces.new.hand
-    pieces.items c.requires.fresh worked) c.work-pieces.ensures.pieces
+    pieces.items c.requires.draws.fresh worked) c.work-pieces.ensures.pieces
 
 pub work-pieces-requires-clause-few : goal.work-pieces-requires-clause-few
-work-pieces-requires-clause-few g t c κs within = c.requires.few
+work-pieces-requires-clause-few g t c κs within = c.requires.draws.few
 
 pub work-pieces-requires-clause-size : goal.work-pieces-requires-clause-size
-work-pieces-requires-clause-size g t c κs within = c.requires.sized
+work-pieces-requires-clause-size g t c κs within = c.requires.draws.sized
 
 pub work-pieces-requires-clause-total : goal.work-pieces-requires-clause-total
-work-pieces-requires-clause-total g t c κs within = c.requires.total
+work-pieces-requires-clause-total g t c κs within = c.requires.draws.total
 
 pub work-pieces-requires-clause-hand : goal.work-pieces-requires-clause-hand
-work-pieces-requires-clause-hand g t c κs within = c.requires.of_board
+work-pieces-requires-clause-hand g t c κs within = c.requires.draws.of_board
 
 pub returns-then-workers-le1-clause-light : goal.returns-then-workers-le1-clause-light
 returns-then-workers-le1-clause-light g t c = c.work-pieces.ensures.light
@@ -43,7 +43,7 @@ pub overflow_sub-high : goal.overflow_sub-high
 overflow_sub-high g t c = omega arith
 
 pub split-requires : goal.split-requires
-split-requires g t c = c.requires.of_board
+split-requires g t c = c.requires.draws.of_board
 
 pub rejoin-requires : goal.rejoin-requires
 rejoin-requires g t c = (c.join-mine.ensures.first.0.0, c.join-mine.ensures.second.0.0)
