@@ -1,4 +1,3 @@
-pub mod TakenApart
 pub mod Files
 pub mod Unread
 pub mod Loads

@@ -1,5 +1,5 @@
 -- What is made from the file of an image that is loaded.
-use Rattle.std.specs.Prelude.{◌≡◌, ℕ, List, [], ◌∷◌, ◌++◌, Option, Some, None, map}
+use Rattle.std.specs.Prelude.{◌≡◌, ℕ, List, Some, None}
 use Rattle.devices.specs.Sources.{Source, sealed, unknown}
 use Rattle.romfs_seal.specs.Named.{seal_of}
 use Rattle.romfs_kept.specs.declared.fault.GatherFault.{GatherFault}
@@ -59,25 +59,3 @@ IsLetGo (from.Memory bytes) trailers image =
     (image.held ≡ held.Whole bytes) × (image.source ≡ None)
 IsLetGo (from.Sealed name) trailers image =
     IsKeptOf (sealed (seal_of name)) trailers image × (image.source ≡ None)
-
--- a list, followed by a value if there is one
-abbrev pub added : {T : Type 0} → List T → Option T → List T
-added list None = list
-added list (Some value) = list ++ value ∷ []
-
--- a value, if there is one, followed by a list
-abbrev pub before : {T : Type 0} → Option T → List T → List T
-before None rest = rest
-before (Some value) rest = value ∷ rest
-
--- what the data of images are read from, if their files stay open
-abbrev pub files_of : {F A : Type 0} → List (LoadedImage F A) → List (ImageData F A)
-files_of [] = []
-files_of (image ∷ images) = before image.source (files_of images)
-
--- images were split: this is held of them, in their order; and the data of those that are open are
--- read from these
-pub record AreApart {F A : Type 0} (images : List (LoadedImage F A)) (held : List (HeldImage A))
-    (files : List (ImageData F A)) : Type 0 where
-  pub held_are : held ≡ map (λ (image : LoadedImage F A). image.held) images
-  pub files_are : files ≡ files_of images

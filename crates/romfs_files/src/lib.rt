@@ -8,7 +8,7 @@
 //! - open. If a file can be read at a place, only headers, names and targets are read
 //!   (`romfs_kept`), in memory in proportion to these, and the file stays open; others are read in
 //!   full. Such an image has both what is kept, and what its data are read from: the file or the
-//!   bytes ([`ImageData`]). [`apart`] splits a list of images into these two.
+//!   bytes ([`ImageData`]).
 //! - gathered. The same is read, and no file stays open.
 //!
 //! An image whose fs-verity digest is known is read under it, with the file of its tree
@@ -34,7 +34,7 @@ mod whole;
 
 pub use image_data::ImageData;
 pub use images::{FilesFault, load};
-pub use loaded::{LoadedImage, Loading, Trailers, apart};
+pub use loaded::{LoadedImage, Loading, Trailers};
 pub use opening::{FileKind, load_as};
 pub use romfs_kept::GatherFault;
 pub use sealing::load_sealed;

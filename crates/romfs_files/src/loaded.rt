@@ -2,7 +2,7 @@
 
 ghost use Rattle.std.specs.Prelude.{◌≡◌, None, IfOk, IfErr};
 ghost use Rattle.romfs_files.specs.Data.{source_of};
-ghost use Rattle.romfs_files.specs.Loaded.{AreApart, IsKeptOf, IsNotGathered, IsOpenOver, IsLetGo, WasGathered, added};
+ghost use Rattle.romfs_files.specs.Loaded.{IsKeptOf, IsNotGathered, IsOpenOver, IsLetGo, WasGathered};
 
 use crate::image_data::ImageData;
 use devices::Contents;
@@ -114,31 +114,4 @@ fn gather_as<S: Contents, A: Allocator + Copy>(
         Trailers::Read => gather_with_trailer(alloc, source, grain),
         Trailers::Left => gather(alloc, source, grain),
     }
-}
-
-/// Splits images: what is held of each, and what the data of each are read from if its file stays
-/// open, both in the order of the images. `AllocError` only if memory was refused.
-pub fn apart<F: FileExt + Drop, A: Allocator + Copy>(
-    alloc: A,
-    images: Vec<LoadedImage<F, A>, A>,
-) -> Result<(Vec<HeldImage<A>, A>, Vec<ImageData<F, A>, A>), AllocError>
-    ensures { IfOk result (λ both. AreApart images.items both.0.items both.1.items) }
-{
-    let mut held = Vec::with_capacity(alloc, images.len())?;
-    let mut files = Vec::with_capacity(alloc, images.len())?;
-    for image in images {
-        held.push(image.held)?;
-        add(&mut files, image.source)?;
-    }
-    Ok((held, files))
-}
-
-/// Adds the value, if there is one.
-fn add<T: Drop, A: Allocator>(list: &mut Vec<T, A>, value: Option<T>) -> Result<(), AllocError>
-    ensures { IfOk result (λ _. list.new.items ≡ added list.old.items value) }
-{
-    if let Some(value) = value {
-        list.push(value)?;
-    }
-    Ok(())
 }

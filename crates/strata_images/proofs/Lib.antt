@@ -10,3 +10,4 @@ pub mod ByDigest
 pub mod Noted
 pub mod Allowed
 pub mod Unread
+pub mod TakenApart

@@ -16,12 +16,12 @@ use Rattle.romfs_held.specs.declared.image.HeldImage.{HeldImage}
 use Rattle.romfs_held.specs.declared.image.HeldImage.TheVariants.{Kept, Whole}
 use Rattle.romfs_held.specs.Images.{held_bytes, is_whole}
 use Rattle.romfs_files.specs.Files.{IsHeldWith, IsWholeOf}
-use Rattle.romfs_files.specs.Loaded.{AreApart, IsKeptWith, IsOpenOver, before, files_of}
+use Rattle.romfs_files.specs.Loaded.{IsKeptWith, IsOpenOver}
 use Rattle.romfs_files.specs.Sealing.{AreLoadedBy, IsLoadedBy, IsWholeOver, seal_by}
 use Rattle.strata_words.specs.declared.options.Line.{Line}
 use Rattle.stack_model.specs.Listing.{Stacked}
 use Rattle.reply_model.specs.Readings.{Sourced, in_memory, sourced}
-use Rattle.strata_images.specs.Images.{AreDataOf, AreEachBy, AreHeldFor, AreHeldWhole, ArePrepared, AreReadWhole, HaveSources, IsDataOf, IsHeldBy, IsImageBy, IsLoadingOf, IsSourceBy, sources_of, stay_in_files, trailers_of}
+use Rattle.strata_images.specs.Images.{AreApart, AreDataOf, AreEachBy, AreHeldFor, AreHeldWhole, ArePrepared, AreReadWhole, HaveSources, IsDataOf, IsHeldBy, IsImageBy, IsLoadingOf, IsSourceBy, sources_of, stay_in_files, before, files_of, trailers_of}
 
 -- what is held of an image that was gathered
 pub is_data : {A : Type 0} (trailers : Trailers) (held : HeldImage A) (source : Source) → IsKeptWith source trailers held

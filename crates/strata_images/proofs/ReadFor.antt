@@ -12,11 +12,10 @@ use Rattle.romfs_files.specs.declared.loaded.Loading.{Loading}
 use Rattle.romfs_files.specs.declared.loaded.Loading.TheVariants as how
 use Rattle.romfs_files.specs.declared.loaded.Trailers.{Trailers}
 use Rattle.romfs_files.specs.Data.{source_of}
-use Rattle.romfs_files.specs.Loaded.{AreApart}
 use Rattle.romfs_files.specs.Opening.{loaded_bytes}
 use Rattle.romfs_files.specs.Sealing.{AreLoadedBy, IsHeldUnder, IsLoadedBy, IsOpenUnder, IsWholeUnder, seal_by}
 use Rattle.strata_words.specs.declared.options.Line.{Line}
-use Rattle.strata_images.specs.Images.{AreEachBy, AreHeldFor, AreReadFor, AreReadFrom, AreReadWhole, IsHeldBy, IsLoadingOf, IsReadFrom, trailers_of}
+use Rattle.strata_images.specs.Images.{AreApart, AreEachBy, AreHeldFor, AreReadFor, AreReadFrom, AreReadWhole, IsHeldBy, IsLoadingOf, IsReadFrom, trailers_of}
 use Rattle.strata_images.proofs.Listed.{bytes_apart}
 use Rattle.strata_images.proofs.Opened.{as_many_held, each_loaded, is_data, whole_one, whole_over}
 

@@ -1,6 +1,6 @@
 -- The images of a line, as they are held: all bytes of each, or only what the rules check, with
 -- zeros for the rest.
-use Rattle.std.specs.Prelude.{◌≡◌, ◌≤◌, ◌^◌, ◌⊎◌, ◌||◌, ℕ, Bool, true, false, List, [], ◌∷◌, Option, Some, None, ⊤, length, map, sum, vec_len, if◌then◌else◌}
+use Rattle.std.specs.Prelude.{◌≡◌, ◌≤◌, ◌^◌, ◌⊎◌, ◌||◌, ℕ, Bool, true, false, List, [], ◌∷◌, ◌++◌, Option, Some, None, ⊤, length, map, sum, vec_len, if◌then◌else◌}
 use Rattle.std.specs.declared.vec.Vec.{Vec}
 use Rattle.romfs_format.specs.declared.rule.Profile.{Profile}
 use Rattle.romfs_format.specs.Profiles.{profile_with}
@@ -198,3 +198,25 @@ pub record AreNotStacked (profile : Profile) (images : List (List ℕ))
   pub refusal : Refusal
   pub told : fault ≡ refusal_told_of refusal
   pub refused : AreRefused profile images refusal
+
+-- a list, followed by a value if there is one
+abbrev pub added : {T : Type 0} → List T → Option T → List T
+added list None = list
+added list (Some value) = list ++ value ∷ []
+
+-- a value, if there is one, followed by a list
+abbrev pub before : {T : Type 0} → Option T → List T → List T
+before None rest = rest
+before (Some value) rest = value ∷ rest
+
+-- what the data of images are read from, if their files stay open
+abbrev pub files_of : {F A : Type 0} → List (LoadedImage F A) → List (ImageData F A)
+files_of [] = []
+files_of (image ∷ images) = before image.source (files_of images)
+
+-- images were split: this is held of them, in their order; and the data of those that are open are
+-- read from these
+pub record AreApart {F A : Type 0} (images : List (LoadedImage F A)) (held : List (HeldImage A))
+    (files : List (ImageData F A)) : Type 0 where
+  pub held_are : held ≡ map (λ (image : LoadedImage F A). image.held) images
+  pub files_are : files ≡ files_of images

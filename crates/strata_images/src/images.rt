@@ -3,13 +3,13 @@
 ghost use Rattle.std.specs.Prelude.{◌≡◌, ◌↔◌, ℕ, List, Option, length, vec_len, IfOk, IfErr, IsTrue};
 ghost use Rattle.strata_words.specs.CommandLine.{IsInLimits};
 ghost use Rattle.strata_images.specs.Faults.{AreUnread};
-ghost use Rattle.strata_images.specs.Images.{AreHeldFor, AreReadFor, AreReadWhole, AreSmall, IsLoadingOf, HaveSources, are_whole, bytes_of, sources_of, trailers_of};
+ghost use Rattle.strata_images.specs.Images.{AreApart, AreHeldFor, AreReadFor, AreReadWhole, AreSmall, IsLoadingOf, HaveSources, added, are_whole, bytes_of, sources_of, trailers_of};
 
 use crate::faults::ImagesFault;
 use crate::profile::asks_attributes;
-use romfs_files::{ImageData, LoadedImage, Loading, Trailers, apart, load};
+use romfs_files::{ImageData, LoadedImage, Loading, Trailers, load};
 use romfs_held::HeldImage;
-use std::alloc::Allocator;
+use std::alloc::{AllocError, Allocator};
 use std::fs;
 use std::fs::Files;
 use std::os::unix::fs::FileExt;
@@ -26,6 +26,34 @@ const SMALL_STACK: u64 = 32 << 20;
 pub struct LineImages<F: FileExt, A: Allocator> {
     pub held: Vec<HeldImage<A>, A>,
     pub files: Vec<ImageData<F, A>, A>,
+}
+
+impl<F: FileExt + Drop, A: Allocator + Copy> LineImages<F, A> {
+    /// These loaded images, in their order. `AllocError` only if memory was refused.
+    pub(crate) fn of(
+        alloc: A,
+        images: Vec<LoadedImage<F, A>, A>,
+    ) -> Result<LineImages<F, A>, AllocError>
+        ensures { IfOk result (λ line. AreApart images.items line.held.items line.files.items) }
+    {
+        let mut held = Vec::with_capacity(alloc, images.len())?;
+        let mut files = Vec::with_capacity(alloc, images.len())?;
+        for image in images {
+            held.push(image.held)?;
+            add(&mut files, image.source)?;
+        }
+        Ok(LineImages { held, files })
+    }
+}
+
+// Adds the value, if there is one.
+fn add<T: Drop, A: Allocator>(list: &mut Vec<T, A>, value: Option<T>) -> Result<(), AllocError>
+    ensures { IfOk result (λ _. list.new.items ≡ added list.old.items value) }
+{
+    if let Some(value) = value {
+        list.push(value)?;
+    }
+    Ok(())
 }
 
 /// The images of a line that serves. They are read in full with `--whole`, or if they are
@@ -50,8 +78,7 @@ where
     let loading = loading_of(rt, line, Loading::Open(trailers_of(line)));
     let paths = line.images.as_slice();
     let images = load(rt, alloc, paths, line.digests.as_slice(), loading)?;
-    let (held, files) = apart(alloc, images)?;
-    Ok(LineImages { held, files })
+    Ok(LineImages::of(alloc, images)?)
 }
 
 /// What is held of the images of a line that checks or lists, none of which stays open. They are

@@ -12,12 +12,13 @@ ghost use Rattle.strata_images.specs.Listing.{IsStackListed, IsNotListed};
 ghost use Rattle.strata_images.specs.Texts.{unread_lines};
 
 use crate::faults::ImagesFault;
+use crate::images::LineImages;
 use crate::lines::write_bytes;
 use crate::profile::profile_of;
 use crate::trailers::unread_lines;
 use devices::Sink;
 use node_list::write_list;
-use romfs_files::{LoadedImage, apart};
+use romfs_files::LoadedImage;
 use stack_prepare::{FreePass, HeldImage, Owner, Table, prepare};
 use std::alloc::Allocator;
 use std::fs::Files;
@@ -50,7 +51,7 @@ where
     ensures unnoted { IfErr result (λ _. E.contents notes.new ≡ E.contents notes.old) }
 {
     let unread = unread_lines(alloc, line, images.as_slice())?;
-    let (held, _files) = apart(alloc, images)?;
+    let LineImages { held, files: _ } = LineImages::of(alloc, images)?;
     list_held(rt, alloc, line, held, output)?;
     let _ = write_bytes(notes, unread.as_bytes());
     Ok(())

@@ -10,21 +10,21 @@ use Rattle.strata_images.proofs.images.open_all.Goals as goal
 pub returns-clause-read : goal.returns-clause-read
 returns-clause-read g c =
     let images = c.in_ok-images.images in
-    opened_for c.args.line.now g.R.File.Read.remaining c.loading_of-loading.result images.items c.in_ok-held.held.items
-    c.in_ok-held.files.items (sym images.ok.0 ∙ omega (arith, c.in_ok-images.ensures.ok, c.as_slice-paths.ensures.len))
+    opened_for c.args.line.now g.R.File.Read.remaining c.loading_of-loading.result images.items c.in_ok-of.field-0.held.items
+    c.in_ok-of.field-0.files.items (sym images.ok.0 ∙ omega (arith, c.in_ok-images.ensures.ok, c.as_slice-paths.ensures.len))
     (subst (λ t. IsLoadingOf c.args.line.now (how.Open t) c.loading_of-loading.result) c.trailers_of.ensures c.loading_of-loading.ensures)
     (subst (λ ds. AreLoadedBy g.R.File.Read.remaining c.loading_of-loading.result ds images.items) c.as_slice.ensures.value
     c.in_ok-images.ensures.loaded)
-    c.in_ok-held.ensures
+    c.in_ok-of.ensures
 
 pub returns-clause-sources : goal.returns-clause-sources
 returns-clause-sources g c =
     loaded_sources c.args.line.now g.R.File.Read.remaining c.loading_of-loading.result c.in_ok-images.images.items
-    c.in_ok-held.held.items c.in_ok-held.files.items
+    c.in_ok-of.field-0.held.items c.in_ok-of.field-0.files.items
     (subst (λ t. IsLoadingOf c.args.line.now (how.Open t) c.loading_of-loading.result) c.trailers_of.ensures c.loading_of-loading.ensures)
     (subst (λ ds. AreLoadedBy g.R.File.Read.remaining c.loading_of-loading.result ds c.in_ok-images.images.items)
     c.as_slice.ensures.value c.in_ok-images.ensures.loaded)
-    c.in_ok-held.ensures
+    c.in_ok-of.ensures
 
 pub returns-in_err-images-clause-err : goal.returns-in_err-images-clause-err
 returns-in_err-images-clause-err g c =

@@ -14,7 +14,7 @@ returns-in_err-held-clause-stopped g c = unlisted _ _ _ c.from_residual-in_err-h
 
 pub returns-in_err-list_held-clause-stopped : goal.returns-in_err-list_held-clause-stopped
 returns-in_err-list_held-clause-stopped g c =
-    let same : bytes_of c.in_ok-held.held ≡ loaded_contents c.args.images =
+    let same : bytes_of c.in_ok-held.field-0.held ≡ loaded_contents c.args.images =
     ap (map held_bytes) c.in_ok-held.ensures.held_are ∙ bytes_apart c.args.images.items in
     let old = g.K.Sink.state c.args.output.now in
     let new = g.K.Sink.state c.list_held.new.output in
@@ -25,7 +25,7 @@ returns-in_err-list_held-clause-stopped g c =
 
 pub returns-clause-done : goal.returns-clause-done
 returns-clause-done g c =
-    let same : bytes_of c.in_ok-held.held ≡ loaded_contents c.args.images =
+    let same : bytes_of c.in_ok-held.field-0.held ≡ loaded_contents c.args.images =
     ap (map held_bytes) c.in_ok-held.ensures.held_are ∙ bytes_apart c.args.images.items in
     subst (λ xs. IsStackListed (profile_of c.args.line.now) xs (g.K.Sink.state c.args.output.now) (g.K.Sink.state c.list_held.new.output))
     same c.in_ok-list_held.ensures.done

@@ -2,7 +2,7 @@
 use Rattle.std.proofs.Common.{◌≡◌, ◌∙◌, ap, arith, refl, List, [], ◌∷◌, ◌++◌, append_assoc, append-nil, length, map, Option, Some, None, sym}
 use Rattle.romfs_files.specs.declared.image_data.ImageData.{ImageData}
 use Rattle.romfs_files.specs.declared.loaded.LoadedImage.{LoadedImage}
-use Rattle.romfs_files.specs.Loaded.{added, before, files_of}
+use Rattle.strata_images.specs.Images.{added, before, files_of}
 
 -- what is held of the next one goes to what is held of those that are done
 pub one_held : {X Y : Type 0} (f : X → Y) (all done now : List Y) (left rest : List X) (x : X) → all ≡ done ++ map f left

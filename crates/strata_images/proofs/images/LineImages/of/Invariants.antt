@@ -1,7 +1,7 @@
 use Rattle.std.proofs.Common.{◌≡◌, ◌++◌, map}
 use Rattle.std.specs.Vec.Iter.{into_iter_items}
-use Rattle.romfs_files.specs.Loaded.{files_of}
-use Rattle.romfs_files.proofs.loaded.apart.Given as goal
+use Rattle.strata_images.specs.Images.{files_of}
+use Rattle.strata_images.proofs.images.LineImages.of.Given as goal
 
 -- the images so far are split, and the others are left
 abbrev pub invariant-loop-image : goal.invariant-loop-image

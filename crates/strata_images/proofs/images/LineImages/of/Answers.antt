@@ -1,8 +1,8 @@
 use Rattle.std.proofs.Common.{◌≡◌, length, map, arith, refl}
 use Rattle.std.specs.Vec.Iter.{into_iter_items}
-use Rattle.romfs_files.specs.Loaded.{files_of}
-use Rattle.romfs_files.proofs.TakenApart.{all_done, one_file, one_held}
-use Rattle.romfs_files.proofs.loaded.apart.Goals as goal
+use Rattle.strata_images.specs.Images.{files_of}
+use Rattle.strata_images.proofs.TakenApart.{all_done, one_file, one_held}
+use Rattle.strata_images.proofs.images.LineImages.of.Goals as goal
 
 pub loop-image-preserved : goal.loop-image-preserved
 loop-image-preserved g c = record {
