@@ -24,12 +24,15 @@ def open_folder(name, above=None):
     return os.open(name, flags | (os.O_NOFOLLOW if above is not None else 0), dir_fd=above)
 
 
-def make_folder(name, above=None):
-    """The same, which is made where it isn't there, for its user alone to write to."""
+def make_folder(name, above=None, mode=0o755, made=None):
+    """The same, which is made where it isn't there, and then told by a call of `made`."""
     try:
-        os.mkdir(name, 0o755, dir_fd=above)
+        os.mkdir(name, mode, dir_fd=above)
     except FileExistsError:
         pass
+    else:
+        if made:
+            made()
     return open_folder(name, above)
 
 

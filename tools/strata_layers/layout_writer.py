@@ -13,7 +13,7 @@ import os
 import re
 import stat
 
-from strata_format.files import copy_front, names_in, new_file, open_folder, write_all
+from strata_format.files import copy_front, make_folder, names_in, new_file, write_all
 from strata_format.refused import Refused, shown
 from strata_layers.layouts import REFERENCE, Layout, has_type, parsed, split_at_folder
 
@@ -95,11 +95,9 @@ class LayoutWriter:
     # --- files ---
 
     def made_folder(self, name, above=None):
-        """An open folder, which is made where it isn't there."""
-        with contextlib.suppress(FileExistsError):
-            os.mkdir(name, dir_fd=above)
-            self.brought.callback(take_away, os.rmdir, name, above)
-        return open_folder(name, above)
+        """An open folder. One that is made for this run is taken away if the run fails."""
+        return make_folder(name, above, 0o777,
+                           lambda: self.brought.callback(take_away, os.rmdir, name, above))
 
     def keep(self, new, folder, name):
         """Gives a file, which is whole, its name."""
