@@ -5,7 +5,7 @@
 
 use devices::{Contents, fill};
 use romfs_files::{
-    FileKind, FilesFault, GatherFault, ImageData, Loading, Trailers, apart, load, load_as,
+    FileKind, FilesFault, GatherFault, ImageData, LoadedImage, Loading, Trailers, load, load_as,
 };
 use romfs_held::read::word;
 use romfs_held::{Held, HeldImage};
@@ -115,15 +115,16 @@ fn gathered(name: u8, data: u8) -> Seen {
     }
 }
 
-/// The same for several images, in their order.
+/// The same for several images whose files stay open, in their order.
 fn look_at_all<F: FileExt, A: Allocator + Copy>(
     alloc: A,
-    kept: &[HeldImage<A>],
-    sources: &[ImageData<F, A>],
+    images: &[LoadedImage<F, A>],
 ) -> Result<Vec<Seen, A>, AllocError> {
-    let mut all = Vec::with_capacity(alloc, kept.len())?;
-    for (kept, source) in kept.iter().zip(sources.iter()) {
-        all.push(look_at(kept, source))?;
+    let mut all = Vec::with_capacity(alloc, images.len())?;
+    for image in images {
+        if let Some(source) = &image.source {
+            all.push(look_at(&image.held, source))?;
+        }
     }
     Ok(all)
 }
@@ -142,8 +143,7 @@ where
 {
     let paths = [low, high, high, other, low, high, other, low, high];
     let images = load(rt, alloc, &paths, &[None; 9], Loading::Open(Trailers::Left))?;
-    let (kept, sources) = apart(alloc, images)?;
-    Ok(look_at_all(alloc, &kept, &sources)?)
+    Ok(look_at_all(alloc, &images)?)
 }
 
 /// What a file opened as one of this kind gives; none if it cannot be.
