@@ -95,7 +95,7 @@ class LayoutWriter:
     # --- files ---
 
     def made_folder(self, name, above=None):
-        """An open folder. One that is made for this run is taken away if the run fails."""
+        """An open folder. One that is made for this run is removed if the run fails."""
         return make_folder(name, above, 0o777,
                            lambda: self.brought.callback(take_away, os.rmdir, name, above))
 
