@@ -22,7 +22,7 @@ from strata_snapshotter.background import begin_after, told_as_warning
 from strata_snapshotter.chain_mounts import ChainMounts
 from strata_snapshotter.faults import (
     AlreadyExists, FailedPrecondition, InvalidArgument, NotFound)
-from strata_snapshotter.filters import any_of
+from strata_snapshotter.filters import matches, parsed
 from strata_snapshotter.given_image import given_image
 from strata_snapshotter.image_maker import LAYERS_MOST, ImageMaker, tell_folder
 from strata_snapshotter.ready_layers import REFERENCE, is_highest
@@ -50,13 +50,10 @@ def labels_of(snapshot):
     return {**snapshot.labels, FOLDER: snapshot.why[:WHY_MOST]}
 
 
-def field_of(snapshot, path):
-    """The value of a field for filters, or None where it isn't present."""
-    if path[0] == "labels":
-        return labels_of(snapshot).get(".".join(path[1:]))
-    fields = {"name": snapshot.name, "parent": snapshot.parent_name,
-              "kind": snapshot.kind.name.lower()}
-    return fields.get(path[0])
+def fields_of(snapshot):
+    """The fields of a snapshot for filters."""
+    return {"name": snapshot.name, "parent": snapshot.parent_name,
+            "kind": snapshot.kind.name.lower(), "labels": labels_of(snapshot)}
 
 
 class Snapshots:
@@ -102,10 +99,10 @@ class Snapshots:
 
     def list(self, filters):
         """The snapshots that match any of some filters."""
-        match = any_of(filters)
+        filters = parsed(filters)
         with self.lock:
             every = self.state.every()
-        return [it for it in every if match(lambda path, it=it: field_of(it, path))]
+        return list(itertools.compress(every, matches(filters, [*map(fields_of, every)])))
 
     def usage(self, name):
         """The bytes and inodes that a snapshot takes itself."""
