@@ -178,11 +178,12 @@ def check_endless_searches(snapshotter):
 
 
 def check_long_lists(snapshotter):
-    """A list of more snapshots than one message holds."""
+    """Lists of many snapshots, and of more bytes than a client takes in one message; a name of as many in a status."""
     wanted = ["a%03d" % number for number in range(120)]
-    for name in wanted:
-        snapshotter.call("Prepare", key=name)
+    for number, name in enumerate(wanted):
+        snapshotter.call("Prepare", key=name, labels={"l": "v" * (3 << 20) * (number % 40 == 0)})
     names_are(snapshotter, wanted)
+    snapshotter.fails("NOT_FOUND", "Stat", key="a" * (3 << 20))
 
 
 CHECKS = (check_every_call, check_what_is_missing, check_wrong_parents, check_wrong_kinds,
