@@ -256,6 +256,56 @@ def check_refused_roots(snapshotter):
     hold("the layer", ["file"], os.listdir(snapshotter.view("v", "one")))
 
 
+def replace(path):
+    """Puts another database into the place of one."""
+    with contextlib.closing(sqlite3.connect(path + "-")) as other:
+        other.execute("CREATE TABLE others(id INTEGER)")
+    os.rename(path + "-", path)
+
+
+def pipe(path):
+    os.unlink(path)
+    os.mkfifo(path)
+
+
+def folder(path):
+    os.unlink(path)
+    os.mkdir(path)
+
+
+def check_a_lost_database(snapshotter):
+    """A database that is removed or replaced while the service runs: changes fail, what it held is kept beside it, and without it
+    no service begins, which would remove all snapshots."""
+    snapshotter.layer("one", "", fill)
+    snapshotter.settled()
+    base, names = snapshotter.root + "/state.db", ["one"]
+    for number, lose in enumerate((os.unlink, replace, folder, pipe)):
+        lose(base)
+        # the last one is noticed at the end alone
+        if lose != pipe:
+            snapshotter.fails("UNAVAILABLE", "Prepare", key="none")
+        hold("names", names, snapshotter.names())
+        hold("status", 0, snapshotter.stop())
+        status, text = snapshotter.refused()
+        hold("without it", (1, 1, True), (status, text.count("\n"), text.startswith("strata-snapshotter: %s: " % base)))
+        if lose == folder:
+            os.rmdir(base)
+        os.rename(base + ".kept", base)
+        snapshotter.start()
+        names = sorted([*names, "a%d" % number])
+        snapshotter.call("Prepare", key="a%d" % number)
+    snapshotter.stop()
+    with open(base, "rb+") as file:
+        data = file.read()
+        file.truncate(0)
+    hold("an empty one", (1, True), (snapshotter.refused()[0], "missing or empty" in snapshotter.refused()[1]))
+    with open(base, "wb") as file:
+        file.write(data)
+    snapshotter.start()
+    hold("names", names, snapshotter.names())
+    hold("the layer", ["file"], os.listdir(snapshotter.view("v", "one")))
+
+
 def check_removed_while_it_is_made(snapshotter):
     """Layers that are removed while their images are made leave nothing."""
     for number in range(6):
@@ -442,6 +492,7 @@ def check_too_many_connections(snapshotter):
 
 CHECKS = (check_killed_and_restarted, check_mounts_that_are_gone, check_kept_mounts,
           check_the_launcher_killed, check_what_is_mounted_ahead, check_replaced_folders,
-          check_what_a_killed_one_left, check_random_kills, check_refused_roots, check_removed_while_it_is_made, check_removed_while_it_is_committed,
+          check_what_a_killed_one_left, check_random_kills, check_refused_roots, check_a_lost_database, check_removed_while_it_is_made,
+          check_removed_while_it_is_committed,
           check_many_at_once, check_a_full_disk, check_the_socket_of_systemd,
           check_greetings, check_too_many_connections)

@@ -60,7 +60,8 @@ class Snapshots:
     """All snapshots of a root; every call may come from any thread."""
 
     def __init__(self, held, program, ready, keep, is_waiting=False):
-        self.places, self.ready, self.state = held, ready, State(held.at("state.db"))
+        self.places, self.ready = held, ready
+        self.state = State(held.at("state.db"), bool(held.numbers("snapshots")))
         # whether containers wait until all that they lie on are images
         self.is_waiting = is_waiting
         self.mounts_of = ChainMounts(held, program, keep)
@@ -81,7 +82,8 @@ class Snapshots:
         """Unmounts what is only kept, and ends the use of the state, so that it stands in one
         file."""
         with self.ahead.lock, self.lock:
-            self.mounts_of.release(self.state.used(True), set())
+            with told_as_warning("mounts stay"):
+                self.mounts_of.release(self.state.used(True), set())
             self.mounts_of.close()
             self.state.close()
 
