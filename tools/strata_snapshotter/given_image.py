@@ -1,4 +1,5 @@
 """Layers that are given as images, which is what a stranger says: an archive of one file."""
+import itertools
 import os
 import stat
 import subprocess
@@ -9,7 +10,8 @@ from strata_layers.image_archive import NAME
 
 def given_image(folder):
     """The path of the image that an unpacked layer is alone, or None."""
-    names = os.listdir(folder)
+    with os.scandir(folder) as entries:
+        names = [it.name for it in itertools.islice(entries, 2)]
     if names != [NAME.decode()]:
         return None
     path = os.path.join(folder, names[0])

@@ -295,10 +295,13 @@ class Snapshots:
         with self.lock:
             snapshot = self.committable(name, key)
             why = self.maker.folder_reason(snapshot)
-            form, taken = Form.PENDING, (0, 0)
-            if why is not None:
-                form, taken = Form.FOLDER, places.usage(self.places.files(snapshot.id))
-                tell_folder(name, why)
+        form, taken = Form.PENDING, (0, 0)
+        if why is not None:
+            form, taken = Form.FOLDER, places.usage(self.places.files(snapshot.id))
+            tell_folder(name, why)
+        with self.lock:
+            if self.committable(name, key).id != snapshot.id:
+                raise NotFound("snapshot %s: not found" % key)
             with self.state.transaction():
                 self.state.commit(snapshot, name, labels, form)
                 self.state.settle(snapshot.id, form, taken, why=why)
