@@ -163,23 +163,26 @@ def remove(path):
     it is found again at the next start."""
     if path is None:
         return
+    why = None
     try:
-        os.unlink(path)
+        if os.path.isdir(path) and not os.path.islink(path):
+            why = why_folder_stays(path)
+        else:
+            os.unlink(path)
     except FileNotFoundError:
         pass
-    except IsADirectoryError:
-        remove_folder(path)
     except OSError as fault:
-        logging.warning("%s stays for now: %s", path, fault.strerror)
+        why = fault.strerror
+    if why is not None:
+        logging.warning("%s stays for now: %s", path, why)
 
 
-def remove_folder(path):
-    """The same of a folder. A container may have made folders within folders without end, which Python's
-    own functions do not remove."""
+def why_folder_stays(path):
+    """Removes a folder with all in it; why that can't be, or None. A container may have made folders within folders
+    without end, which Python's own functions do not remove."""
     done = subprocess.run(["rm", "-rf", "--", path], stdin=subprocess.DEVNULL, stdout=subprocess.DEVNULL,
                           stderr=subprocess.PIPE, check=False)
-    if done.returncode != 0:
-        logging.warning("%s stays for now: %s", path, one_line(done.stderr.decode(errors="replace").strip()))
+    return one_line(done.stderr.decode(errors="replace").strip()) if done.returncode != 0 else None
 
 
 def found_in(path):
