@@ -560,7 +560,7 @@ def check_too_many_connections(snapshotter):
 
 CHECKS = (check_killed_and_restarted, check_mounts_that_are_gone, check_kept_mounts,
           check_the_launcher_killed, check_what_is_mounted_ahead, check_replaced_folders,
-          check_what_a_killed_one_left, check_random_kills, check_refused_roots, check_a_lost_database, check_deep_folders, check_large_folders, check_removed_while_it_is_made,
-          check_removed_while_it_is_committed,
-          check_many_at_once, check_a_full_disk, check_the_socket_of_systemd,
-          check_greetings, check_too_many_connections)
+          check_what_a_killed_one_left, check_random_kills, check_refused_roots, check_a_lost_database,
+          check_deep_folders, check_large_folders, check_removed_while_it_is_made,
+          check_removed_while_it_is_committed, check_many_at_once, check_a_full_disk,
+          check_the_socket_of_systemd, check_greetings, check_too_many_connections)
