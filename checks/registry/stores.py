@@ -312,7 +312,7 @@ def check_rows_of_the_layers_below(room):
     for order in ((0, 1), (1, 0)):
         store = room.name()
         for number, new in [(it, 2) for it in order] + [(it, 0) for it in order]:
-            hold("printed", pulled_line("a%d:1" % number, 2, new, room.store),
+            hold("printed", pulled_line("a%d:1" % number, 2, new, store),
                  room.layers("pull", "oci:" + sources[number].path, "a%d:1" % number, store=store))
         blobs.append(room.blobs(store))
         for number, it in ((0, 1), (1, 2)):
@@ -580,14 +580,14 @@ def printed_examples():
 
 
 def check_examples_of_the_page(room):
-    """The examples of the page print what they say, but for a digest; all verbs of the store are among them."""
+    """The examples of the page print what they say, but for a digest and the store's place; all verbs of the store are among them."""
     source = made.Layout(os.path.join(room.path, "layout"),
                          {"Entrypoint": ["/bin/say"], "Cmd": ["hello"], "Env": ["PATH=/bin"], "User": "7:8"})
     source.index(made.tagged(source.image(made.LAYERS[:3]), "1"))
     verbs = set()
     for (verb, *words), printed in printed_examples():
         verbs.add(verb)
-        got = room.layers(verb, *words)
+        got = room.layers(verb, *words).replace(" --store " + room.store, "")
         hold(verb, *(re.sub("sha256:[0-9a-f.]+", "sha256:..", it) for it in (printed, got)))
     hold("verbs", {"convert", "pull", "images", "verify", "config", "remove", "prune"}, verbs)
 
