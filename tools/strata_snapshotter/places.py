@@ -15,6 +15,7 @@ import fcntl
 import logging
 import os
 import secrets
+import shutil
 import stat
 import subprocess
 
@@ -163,26 +164,27 @@ def remove(path):
     it is found again at the next start."""
     if path is None:
         return
-    why = None
     try:
         if os.path.isdir(path) and not os.path.islink(path):
-            why = why_folder_stays(path)
+            remove_folder(path)
         else:
             os.unlink(path)
     except FileNotFoundError:
         pass
     except OSError as fault:
-        why = fault.strerror
-    if why is not None:
-        logging.warning("%s stays for now: %s", path, why)
+        logging.warning("%s stays for now: %s", path, fault.strerror)
 
 
-def why_folder_stays(path):
-    """Removes a folder with all in it; why that can't be, or None. A container may have made folders within folders
-    without end, which Python's own functions do not remove."""
-    done = subprocess.run(["rm", "-rf", "--", path], stdin=subprocess.DEVNULL, stdout=subprocess.DEVNULL,
-                          stderr=subprocess.PIPE, check=False)
-    return one_line(done.stderr.decode(errors="replace").strip()) if done.returncode != 0 else None
+def remove_folder(path):
+    """Removes a folder with all in it. Python's own function goes so deep only, and a container may have
+    made folders within folders without end."""
+    try:
+        shutil.rmtree(path)
+    except RecursionError:
+        done = subprocess.run(["rm", "-rf", "--", path], stdin=subprocess.DEVNULL,
+                              stdout=subprocess.DEVNULL, stderr=subprocess.PIPE, check=False)
+        if done.returncode != 0:
+            raise OSError(0, one_line(done.stderr.decode(errors="replace").strip())) from None
 
 
 def found_in(path):
