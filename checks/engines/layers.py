@@ -15,7 +15,7 @@ from checks.registry.tree import tree
 from checks.shared.mounting import hold, wait_until
 from strata_format.refused import Refused
 from strata_layers import tars
-from strata_snapshotter import whole
+from strata_snapshotter import given_image, whole
 from strata_snapshotter.blob_image import write_entries
 from strata_snapshotter.folder_image import write_folder_image
 from strata_snapshotter.image_maker import ImageMaker
@@ -27,6 +27,8 @@ REFERENCE, BLOB = "containerd.io/snapshot.ref", "containerd.io/snapshot/cri.laye
 LAYERS = "containerd.io/snapshot/cri.image-layers"
 # what tells that a layer stays a folder, and why: a label, and a line of the log
 FOLDER, TOLD = "strata/folder", "strata-snapshotter: %s stays a folder, with all above it: %s"
+# what ends with a line once its memory is bounded
+LIMITED = "#!/bin/sh\nwhile [ $(ulimit -v) = unlimited ]; do sleep 0.02; done\nulimit -v >&2\nexit 1\n"
 # which of the facts of checks/registry/tree.py tells how many names a file has
 LINKS = 2
 TIME = 1600000000123456789
@@ -483,6 +485,16 @@ def check_given_images(snapshotter):
         put(mount.source, ".strata.romfs", wrong)
         snapshotter.fails("INVALID_ARGUMENT", "Commit", name="wrong", key="extract-1")
         snapshotter.call("Remove", key="extract-1")
+    program = snapshotter.folder + "/limited"
+    with open(program, "w", encoding="ascii") as out:
+        out.write(LIMITED)
+    os.chmod(program, 0o755)
+    try:
+        given_image.hold_image(program, "image")
+        said = None
+    except Refused as why:
+        said = str(why)
+    hold("the memory of a check, in KiB", str(1 << 20), said)
 
 
 def server_digests(snapshotter):
