@@ -132,9 +132,9 @@ class Snapshots:
             return self.created(name, parent_name, kind, labels, is_early)
 
     def is_pending(self, parent):
-        """Whether images are still to be made of a parent (or None) or of what it lies on. The lock
-        must be held."""
-        return any(it.form == Form.PENDING for it in self.state.chain(parent))
+        """Whether images are still to be made of a parent (or None) or of what it lies on, by now. The
+        lock must be held."""
+        return parent is not None and any(it.form == Form.PENDING for it in self.maker.chain_of(parent.id))
 
     def created(self, name, parent_name, kind, labels, is_early):
         """Makes a snapshot, over what its parent's files are in by now; its mounts."""
