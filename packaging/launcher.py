@@ -13,6 +13,9 @@ import sys
 # OpenSSL, from which only hashes are taken, would run what these name
 for name in ("OPENSSL_CONF", "OPENSSL_MODULES", "OPENSSL_ENGINES"):
     os.environ.pop(name, None)
+# a folder of the caller's PATH may be a stranger's
+if os.geteuid() == 0:
+    os.environ["PATH"] = "/usr/local/sbin:/usr/local/bin:/usr/sbin:/usr/bin:/sbin:/bin"
 HERE = os.path.dirname(os.path.dirname(os.path.realpath(__file__)))
 sys.path.insert(0, os.path.join(HERE, "lib", "strata"))
 from @MODULE@ import main

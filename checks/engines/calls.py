@@ -1,5 +1,6 @@
 """Checks of the snapshot service, call by call, as containerd's own tests of snapshotters ask."""
 import os
+import threading
 import time
 
 from checks.shared.mounting import hold
@@ -143,7 +144,8 @@ FILTERS = (
     (('labels."a.b/c"=="d\\u0020\\145"',), "v2"), (("labels.none==1",), ""),
     (("labels.l!=1",), "a2 c1 c2 v1 v2"), (("name == c1",), "c1"),
     (("name==c1", "name==v1"), "c1 v1"),
-    (("",), "a1 a2 c1 c2 v1 v2"), (("none==1",), ""), (("name~=(",), ""))
+    (("",), "a1 a2 c1 c2 v1 v2"), (("none==1",), ""), (("name~=(",), ""), (("name~=a{99999999999}",), ""),
+    (("name~=" + "(" * 5000,), ""), (("name~=^a.$,labels.l==1", "name~=2,kind==view"), "a1 v2"))
 BAD_FILTERS = ("name=", "name==", "name=c1", "name===c1", "name==c1,", ",name==c1", "name==c1 x",
                "name ", "a..b", "name==/c1/", 'name=="c1', 'name=="\\q"', '"name', "name~=/c",
                'name=="\\400"')
@@ -159,13 +161,32 @@ def check_filters(snapshotter):
         snapshotter.fails("INVALID_ARGUMENT", "List", filters=["name==c1", text])
 
 
+def check_endless_searches(snapshotter):
+    """A pattern whose search takes for ever ends, and other calls are answered meanwhile."""
+    name = "a" * 60 + "b"
+    snapshotter.call("Prepare", key=name)
+    said = []
+    asking = threading.Thread(target=lambda: said.append(snapshotter.tried("List", filters=["name~=^(a|aa)*$"])))
+    asking.start()
+    answered = 0
+    while asking.is_alive():
+        time.sleep(0.05)
+        snapshotter.call("Stat", key=name)
+        answered += asking.is_alive()
+    hold("calls are answered meanwhile", True, answered > 0)
+    line = "the filters' regular expressions take more than 2 seconds of a processor, or 1024 MiB: status -9"
+    hold("the list", ["INVALID_ARGUMENT: " + line], said)
+
+
 def check_long_lists(snapshotter):
-    """A list of more snapshots than one message holds."""
+    """Lists of many snapshots, and of more bytes than a client takes in one message; a name of as many in a status."""
     wanted = ["a%03d" % number for number in range(120)]
-    for name in wanted:
-        snapshotter.call("Prepare", key=name)
+    for number, name in enumerate(wanted):
+        snapshotter.call("Prepare", key=name, labels={"l": "v" * (3 << 20) * (number % 40 == 0)})
     names_are(snapshotter, wanted)
+    snapshotter.fails("NOT_FOUND", "Stat", key="a" * (3 << 20))
 
 
 CHECKS = (check_every_call, check_what_is_missing, check_wrong_parents, check_wrong_kinds,
-          check_names_that_exist, check_updates, check_filters, check_long_lists)
+          check_names_that_exist, check_updates, check_filters, check_endless_searches,
+          check_long_lists)

@@ -15,7 +15,8 @@ import time
 from checks.engines.layers import end, kind_of, lowers_of, put, without_images
 from checks.engines.snapshotters import Snapshotter
 from checks.shared.mounting import SECONDS, Failed, hold, places, wait_until
-from strata_snapshotter import sockets
+from strata_snapshotter import places as held_places, sockets
+from strata_snapshotter.state import Kind
 
 
 def fill(folder):
@@ -256,6 +257,123 @@ def check_refused_roots(snapshotter):
     hold("the layer", ["file"], os.listdir(snapshotter.view("v", "one")))
 
 
+def replace(path):
+    """Puts another database into the place of one."""
+    with contextlib.closing(sqlite3.connect(path + "-")) as other:
+        other.execute("CREATE TABLE others(id INTEGER)")
+    os.rename(path + "-", path)
+
+
+def pipe(path):
+    os.unlink(path)
+    os.mkfifo(path)
+
+
+def folder(path):
+    os.unlink(path)
+    os.mkdir(path)
+
+
+def check_a_lost_database(snapshotter):
+    """A database that is removed or replaced while the service runs: changes fail, what it held is kept beside it, and without it
+    no service begins, which would remove all snapshots."""
+    snapshotter.layer("one", "", fill)
+    snapshotter.settled()
+    base, names = snapshotter.root + "/state.db", ["one"]
+    for number, lose in enumerate((os.unlink, replace, folder, pipe)):
+        lose(base)
+        # the last one is noticed at the end alone
+        if lose != pipe:
+            snapshotter.fails("UNAVAILABLE", "Prepare", key="none")
+        hold("names", names, snapshotter.names())
+        hold("status", 0, snapshotter.stop())
+        status, text = snapshotter.refused()
+        hold("without it", (1, 1, True), (status, text.count("\n"), text.startswith("strata-snapshotter: %s: " % base)))
+        if lose == folder:
+            os.rmdir(base)
+        os.rename(base + ".kept", base)
+        snapshotter.start()
+        names = sorted([*names, "a%d" % number])
+        snapshotter.call("Prepare", key="a%d" % number)
+    snapshotter.stop()
+    with open(base, "rb+") as file:
+        data = file.read()
+        file.truncate(0)
+    hold("an empty one", (1, True), (snapshotter.refused()[0], "missing or empty" in snapshotter.refused()[1]))
+    with open(base, "wb") as file:
+        file.write(data)
+    snapshotter.start()
+    hold("names", names, snapshotter.names())
+    hold("the layer", ["file"], os.listdir(snapshotter.view("v", "one")))
+
+
+def make_deep(folder, depth):
+    """Makes folders within folders, deeper than any path leads."""
+    number = os.open(folder, os.O_RDONLY)
+    for _ in range(depth):
+        os.mkdir("a" * 20, dir_fd=number)
+        below = os.open("a" * 20, os.O_RDONLY, dir_fd=number)
+        os.close(number)
+        number = below
+    os.close(number)
+
+
+def check_deep_folders(snapshotter):
+    """Folders within folders, as a container may make them, are removed: with their snapshot, and at the start."""
+    memory = snapshotter.folder + "/memory"
+    os.mkdir(memory)
+    subprocess.run(["mount", "-t", "tmpfs", "-o", "mode=700", "tmpfs", memory], check=True)
+    other = Snapshotter(snapshotter.program, memory).start()
+    try:
+        hold_deep(other)
+    finally:
+        other.stop()
+        subprocess.run(["umount", memory], check=True)
+
+
+def hold_deep(snapshotter):
+    make_deep(snapshotter.files(snapshotter.call("Prepare", key="a").mounts), 1100)
+    hold("inodes", True, 100 < snapshotter.call("Usage", key="a").inodes <= 1101)
+    snapshotter.layer("one", "", lambda folder: make_deep(folder, 1100))
+    snapshotter.settled()
+    hold("why", True, "a path of 513 names" in snapshotter.call("Stat", key="one").info.labels["strata/folder"])
+    snapshotter.call("Remove", key="a")
+    snapshotter.call("Remove", key="one")
+    hold("what is left", [], snapshotter.left())
+    snapshotter.stop(signal.SIGKILL)
+    for name in ("snapshots/77/fs", "trash/x"):
+        os.makedirs(os.path.join(snapshotter.root, name))
+        make_deep(os.path.join(snapshotter.root, name), 1100)
+    snapshotter.start()
+    hold("what is left at the start", [], snapshotter.left())
+
+
+def check_large_folders(snapshotter):
+    """While it is measured what a folder takes other calls are answered."""
+    snapshotter.stop()
+    snapshots, measured = without_images(snapshotter), held_places.usage
+    why = "it is a folder"
+    snapshots.create("extract-1", "", Kind.ACTIVE, {})
+    snapshots.maker.folder_reason = lambda snapshot: why
+    calling = []
+
+    def usage(path):
+        asking = threading.Thread(target=lambda: calling.append(snapshots.stat("extract-1").name), daemon=True)
+        asking.start()
+        asking.join(SECONDS / 2)
+        return measured(path)
+
+    held_places.usage = usage
+    try:
+        snapshots.commit("one", "extract-1", {})
+    finally:
+        held_places.usage = measured
+    hold("answered meanwhile", ["extract-1"], calling)
+    hold("why", why, snapshots.stat("one").why)
+    end(snapshots)
+    snapshotter.start()
+
+
 def check_removed_while_it_is_made(snapshotter):
     """Layers that are removed while their images are made leave nothing."""
     for number in range(6):
@@ -442,6 +560,7 @@ def check_too_many_connections(snapshotter):
 
 CHECKS = (check_killed_and_restarted, check_mounts_that_are_gone, check_kept_mounts,
           check_the_launcher_killed, check_what_is_mounted_ahead, check_replaced_folders,
-          check_what_a_killed_one_left, check_random_kills, check_refused_roots, check_removed_while_it_is_made, check_removed_while_it_is_committed,
-          check_many_at_once, check_a_full_disk, check_the_socket_of_systemd,
-          check_greetings, check_too_many_connections)
+          check_what_a_killed_one_left, check_random_kills, check_refused_roots, check_a_lost_database,
+          check_deep_folders, check_large_folders, check_removed_while_it_is_made,
+          check_removed_while_it_is_committed, check_many_at_once, check_a_full_disk,
+          check_the_socket_of_systemd, check_greetings, check_too_many_connections)

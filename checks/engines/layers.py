@@ -1,16 +1,23 @@
 """Checks of layers: what becomes an image, what a mount of it shows, and what stays a folder."""
 import glob
+import io
 import os
 import shutil
 import sqlite3
 import subprocess
 import sys
+import tempfile
 import threading
 
 from checks import TOOLS
 from checks.registry import made
 from checks.registry.tree import tree
 from checks.shared.mounting import hold, wait_until
+from strata_format.refused import Refused
+from strata_layers import tars
+from strata_snapshotter import given_image, whole
+from strata_snapshotter.blob_image import write_entries
+from strata_snapshotter.folder_image import write_folder_image
 from strata_snapshotter.image_maker import ImageMaker
 from strata_snapshotter.places import Places
 from strata_snapshotter.snapshots import Snapshots
@@ -20,6 +27,8 @@ REFERENCE, BLOB = "containerd.io/snapshot.ref", "containerd.io/snapshot/cri.laye
 LAYERS = "containerd.io/snapshot/cri.image-layers"
 # what tells that a layer stays a folder, and why: a label, and a line of the log
 FOLDER, TOLD = "strata/folder", "strata-snapshotter: %s stays a folder, with all above it: %s"
+# what ends with a line once its memory is bounded
+LIMITED = "#!/bin/sh\nwhile [ $(ulimit -v) = unlimited ]; do sleep 0.02; done\nulimit -v >&2\nexit 1\n"
 # which of the facts of checks/registry/tree.py tells how many names a file has
 LINKS = 2
 TIME = 1600000000123456789
@@ -219,6 +228,36 @@ def check_what_images_do_not_hold(snapshotter):
     hold("why", ".wh.x: a layer takes a name that begins with .wh. as a whiteout",
          why.rpartition("/")[2])
     hold("lines", [TOLD % ("middle", why), TOLD % ("top", "middle below it is a folder")], lines)
+
+
+def check_many_names(snapshotter):
+    """A layer of more names than a machine has memory for is refused, as a folder and as an archive; folders that entries imply count."""
+    folder, before = snapshotter.folder + "/names", whole.NAMES_MOST
+    os.mkdir(folder)
+    for number in range(8):
+        put(folder, str(number), b"")
+    try:
+        # 8 files and the folder itself
+        for most, why in ((9, None), (8, "it has more than 8 names")):
+            whole.NAMES_MOST = most
+            hold("a folder", why, refused(lambda out: write_folder_image(folder, out, lambda _: None)))
+        for most, why in ((9, None), (8, "it has more than 8 names")):
+            whole.NAMES_MOST = most
+            data = made.archive(made.entry("a/b/c/d"), made.entry("e/f/g/h"))
+            entries = tars.Tar(io.BytesIO(data)).entries()
+            hold("an archive", why, refused(lambda out, entries=entries: write_entries(entries, "sha256:" + "0" * 64, out, [])))
+    finally:
+        whole.NAMES_MOST = before
+
+
+def refused(write):
+    """Why an image is not written to a new file; None where it is."""
+    with tempfile.TemporaryFile("w+b", 0) as out:
+        try:
+            write(out)
+        except Refused as why:
+            return str(why)
+    return None
 
 
 def check_many_layers(snapshotter):
@@ -446,6 +485,16 @@ def check_given_images(snapshotter):
         put(mount.source, ".strata.romfs", wrong)
         snapshotter.fails("INVALID_ARGUMENT", "Commit", name="wrong", key="extract-1")
         snapshotter.call("Remove", key="extract-1")
+    program = snapshotter.folder + "/limited"
+    with open(program, "w", encoding="ascii") as out:
+        out.write(LIMITED)
+    os.chmod(program, 0o755)
+    try:
+        given_image.hold_image(program, "image")
+        said = None
+    except Refused as why:
+        said = str(why)
+    hold("the memory of a check, in KiB", str(1 << 20), said)
 
 
 def server_digests(snapshotter):
@@ -492,6 +541,6 @@ def check_sealed_images(snapshotter):
 
 CHECKS = (check_sealed_images, check_a_tree, check_whiteouts_of_all_forms, check_extended_attributes,
           check_what_images_do_not_hold,
-          check_many_layers, check_what_is_waited_for,
+          check_many_names, check_many_layers, check_what_is_waited_for,
           check_layers_of_a_store, check_the_highest_layer, check_shared_servers, check_blobs_at_hand,
           check_blobs_that_are_images, check_lying_labels, check_given_images)

@@ -3,13 +3,14 @@
 Each runs in a mount namespace of its own. Without python3-grpcio, for others than root, or where
 nothing can be mounted, they are left out, which one line says.
 """
+import contextlib
 import os
 import sys
 import tempfile
 
 from checks.engines import calls, early, faults, layers
 from checks.engines.snapshotters import Snapshotter, python_with_grpc
-from checks.shared.mounting import apart, children, hold, try_mount, wait_until
+from checks.shared.mounting import Failed, apart, children, hold, try_mount, wait_until
 
 
 def inside(check, program, folder):
@@ -17,6 +18,9 @@ def inside(check, program, folder):
     snapshotter = Snapshotter(program, folder).start()
     check(snapshotter)
     snapshotter.remove_all()
+    # an image may still be made of a layer that is removed
+    with contextlib.suppress(Failed):
+        wait_until("nothing is left", lambda: not snapshotter.left())
     hold("what is left", [], snapshotter.left())
     hold("status", 0, snapshotter.stop())
     wait_until("the servers end", lambda: not reaped())

@@ -55,7 +55,7 @@ def alone(root):
     for name in ("strata_mount", "strata_layers", "strata_format", "os", "argparse", "ctypes", "sitecustomize", "mount", "layers"):
         with open("%s/%s.py" % (folder, name), "w", encoding="ascii") as out:
             out.write(EVIL)
-    for name in ("strata", "fusermount3", "python3", "umount"):
+    for name in ("strata", "fusermount3", "python3", "umount", "skopeo", "zstd"):
         with open("%s/%s" % (folder, name), "w", encoding="ascii") as out:
             out.write("#!/bin/sh\necho a stranger was started >&2\nexit 9\n")
         os.chmod("%s/%s" % (folder, name), 0o755)
@@ -64,6 +64,7 @@ def alone(root):
     for name in ("/usr/local/bin/strata-mount", "/usr/local/bin/strata-layers", "/usr/local/sbin/mount.strata"):
         hold_in(name, version_of(name), root.good(name, "--version", cwd=folder, env=env))
     os.mkdir("/mnt/alone")
+    hold_programs_of_root(root, folder, env)
     words = ("/usr/local/sbin/mount.strata", STACK, "/mnt/alone")
     hold("the mount helper", "", root.good(*words, cwd=folder, env=env))
     hold_stack(root, "/mnt/alone")
@@ -75,6 +76,18 @@ def alone(root):
         hold("the server's environment", [b"MALLOC_MMAP_THRESHOLD_", b"GLIBC_TUNABLES", b"PATH", b""], names)
     root.good("umount", "/mnt/alone")
     return "modules and programs of strangers in the working folder, PYTHONPATH and PATH are not met" + other_alone(root, words, env)
+
+
+def hold_programs_of_root(root, folder, env):
+    """Root's programs are those of the system: skopeo, zstd, and fusermount3, which a root without the right to mount needs."""
+    with open("/tmp/packed", "wb") as out:
+        out.write(bytes.fromhex("28b52ffd0400010000"))
+    for words in (("strata-layers", "pull", "docker://localhost:1/a"), ("strata-layers", "image", "-", "/tmp/a.romfs"),
+                  ("strata-mount", "--background", "/srv/lower.romfs", "/mnt/alone")):
+        with open("/tmp/packed", "rb") as packed:
+            done = root.run("/usr/bin/setpriv", "--bounding-set", "-sys_admin", "/usr/local/bin/" + words[0], *words[1:], cwd=folder,
+                            env=env, stdin=packed)
+        hold("%s: %s" % (words, done.err), (True, False), (done.status in (0, 1), "a stranger" in done.err))
 
 
 def other_alone(root, words, env):

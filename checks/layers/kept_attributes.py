@@ -160,7 +160,7 @@ def test_kept_of_older_stores(room):
             with open(os.path.join(records, front), "w", encoding="utf-8") as out:
                 json.dump({**value, "maker": 4}, out)
     status, said, told = run_tool("pull", "--store", place, "oci:" + layout, "x:2")
-    expect((status, said, told) == (0, pulled_line("x:2", 2, 1), []), "printed %r, told %r" % (said, told))
+    expect((status, said, told) == (0, pulled_line("x:2", 2, 1, place), []), "printed %r, told %r" % (said, told))
 
 
 def test_room_for_lists(room):

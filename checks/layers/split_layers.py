@@ -128,7 +128,7 @@ def good(*words):
 
 def hold_pulled(place, layout, name, new):
     output = good("pull", "--store", place, "oci:" + layout, name)
-    expect(output == pulled_line(name, 2, new), "printed %r" % output)
+    expect(output == pulled_line(name, 2, new, place), "printed %r" % output)
 
 
 def hold_stored(room, place, name, archives, owners):

@@ -68,7 +68,7 @@ def check_verify(room):
     hold("wrong", True, lines[0].startswith(first + ": its digest is sha256:") and lines[0].endswith(aside))
     hold("missing", "sha256:%s: missing; needed by a:1" % os.path.basename(second), lines[1])
     hold("out of use", (False, True), (os.path.exists(first), os.path.exists(first + ".damaged")))
-    hold("again", pulled_line("a:1", 5, 2), room.layers("pull", "oci:" + source.path, "a:1"))
+    hold("again", pulled_line("a:1", 5, 2, room.store), room.layers("pull", "oci:" + source.path, "a:1"))
     hold("verified", "", room.layers("verify"))
     hold("read only", {0o444}, {os.stat(it).st_mode & 0o777 for it in mounted_layers(room, "a:1")})
     size = os.path.getsize(first + ".damaged")

@@ -75,7 +75,7 @@ def check_mounts_by_name(room):
     for word, is_name in (("image:none", True), ("image:team/app:2", True), ("image:../app", False)):
         at, done = mount(room, word)
         hold(word, (1, 1, False), (done.returncode, done.stderr.count("\n"), os.path.ismount(at)))
-        hint = "; `strata-layers pull SOURCE %s` brings it there\n" % word.partition(":")[2]
+        hint = "; `strata-layers pull --store %s SOURCE %s` brings it there\n" % (room.store, word.partition(":")[2])
         hold("a hint for " + word, is_name, done.stderr.endswith(hint))
 
 
@@ -294,11 +294,12 @@ def check_changed_stores(room):
     rename(second)
     for word in ("app:1", "app@" + digest):
         hold_not_mounted(room, 3, "image 1: not as sealed\n", word)
-    hold_not_mounted(room, 3, "another image's; `strata-layers verify` makes a tree again, or sets a damaged image aside for "
-                     "`strata-layers pull` to bring\n", "app:1")
+    verify, pull = ("`strata-layers %s --store %s`" % (it, room.store) for it in ("verify", "pull"))
+    hold_not_mounted(room, 3, "another image's; %s makes a tree again, or sets a damaged image aside for %s to bring\n"
+                     % (verify, pull), "app:1")
     rename(second)
     os.rename(second + ".verity", second + ".away")
-    hold_not_mounted(room, 3, "no such file or directory; `strata-layers verify` makes it again\n", "app:1")
+    hold_not_mounted(room, 3, "no such file or directory; %s makes it again\n" % verify, "app:1")
     os.rename(second + ".away", second + ".verity")
     # another layer with its own tree and digest, under the old name
     shutil.copy(second, first)
@@ -346,11 +347,12 @@ def check_stores_without_digests(room):
                      "-o", "sealed", "app:1")
     hold_not_mounted(room, 1, "its manifest says no fs-verity digest of each layer", "app@" + digest)
     hold("verified", "", room.layers("verify"))
-    hold("pulled", pulled_line("app:1", 5, 0), room.layers("pull", "oci:" + out, "app:1"))
+    hold("pulled", pulled_line("app:1", 5, 0, room.store), room.layers("pull", "oci:" + out, "app:1"))
     hold_sealed(room, digests, "app@" + digest)
     without_digests(room)
     flip(layers[2])
-    room.refused("..has other bytes than its digest says; run `strata-layers verify`, and pull again", "pull", "oci:" + out, "app:1")
+    room.refused("..has other bytes than its digest says; run `strata-layers verify --store %s`, and pull again" % room.store,
+                 "pull", "oci:" + out, "app:1")
 
 
 def check_manifests_without_digests(room):

@@ -97,7 +97,7 @@ def check_only_what_is_missing(room):
     manifest = two.json(two.top)
     room.layers("pull", "docker://%s/one" % registry.host)
     before = registry.fetched()
-    hold("printed", pulled_line("two:latest", 5, 2), room.layers("pull", "docker://%s/two" % registry.host))
+    hold("printed", pulled_line("two:latest", 5, 2, room.store), room.layers("pull", "docker://%s/two" % registry.host))
     after = registry.fetched()
     wanted = {it["digest"]: it["size"] for it in [*manifest["layers"][3:], manifest["config"]]}
     hold("bytes of blobs", wanted, {it: size - before.get(it, 0) for it, size in after.items() if size != before.get(it, 0)})
@@ -117,8 +117,8 @@ def check_names_by_digest(room):
         data = room.ran("skopeo", "inspect", "--raw", "docker://%s/lt:%s" % (registry.host, tag))
         digests[tag] = made.digest(data.encode())
     source = "docker://%s/lt" % registry.host
-    hold("new", pulled_line("lt:latest", 5, 5), room.layers("pull", source + "@" + digests["new"]))
-    hold("the same", pulled_line("lt:latest", 5, 0), room.layers("pull", source + "@" + digests["new"]))
+    hold("new", pulled_line("lt:latest", 5, 5, room.store), room.layers("pull", source + "@" + digests["new"]))
+    hold("the same", pulled_line("lt:latest", 5, 0, room.store), room.layers("pull", source + "@" + digests["new"]))
     before = room.layers("images")
     bare = source + "@" + digests["old"]
     room.refused("lt:latest: the store has another image of this name; say one: `strata-layers pull %s NAME`" % bare, "pull", bare)

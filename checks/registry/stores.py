@@ -198,17 +198,17 @@ def check_pull(room):
     room.layers("convert", "--compress", "gzip", source.path, packed, store=elsewhere)
     for number, place in enumerate((plain, packed, source.path)):
         store, name = room.name(), "team/app:v%d" % number
-        hold("printed", pulled_line(name, 5, 5), room.layers("pull", "oci:" + place, name, store=store))
+        hold("printed", pulled_line(name, 5, 5, store), room.layers("pull", "oci:" + place, name, store=store))
         hold("layers", room.blobs(elsewhere), room.blobs(store))
         hold("shown", made.SHOWN, shown_by(room, mounted_layers(room, name.replace("/", "%"), store)))
-        hold("printed again", pulled_line("other:latest", 5, 0),
+        hold("printed again", pulled_line("other:latest", 5, 0, store),
              room.layers("pull", "oci:%s:1" % place, "other", store=store))
         hold("images", ["other:latest", name],
              [it.split()[0] for it in room.layers("images", store=store).splitlines()])
         hold("verified", "", room.layers("verify", store=store))
     hold("modes", {0o700, 0o100444}, {stat.S_IMODE(os.stat(store).st_mode)} | {os.stat(it).st_mode for it in
                                      mounted_layers(room, "other:latest", store)})
-    hold("a name of its own", pulled_line(os.path.basename(plain) + ":1", 5, 5),
+    hold("a name of its own", pulled_line(os.path.basename(plain) + ":1", 5, 5, room.store),
          room.layers("pull", "oci:" + plain))
 
 
@@ -227,8 +227,8 @@ def check_pull_on_btrfs(room):
         raise LeftOut("no btrfs is mounted here: %s" % done.stderr.strip())
     room.ends.append(lambda: room.run("umount", at))
     source, store = made.layout(room.name()), os.path.join(at, "store")
-    hold("printed", pulled_line("a:1", 5, 5), room.layers("pull", "oci:" + source.path, "a:1", store=store))
-    hold("printed again", pulled_line("b:1", 5, 0), room.layers("pull", "oci:" + source.path, "b:1", store=store))
+    hold("printed", pulled_line("a:1", 5, 5, store), room.layers("pull", "oci:" + source.path, "a:1", store=store))
+    hold("printed again", pulled_line("b:1", 5, 0, store), room.layers("pull", "oci:" + source.path, "b:1", store=store))
     room.layers("remove", "a:1", store=store)
     hold("pruned", True, room.layers("prune", store=store).startswith("0 layers removed"))
     hold("verified", "", room.layers("verify", store=store))
@@ -265,10 +265,10 @@ def check_missing(room):
     with open(changed, "r+b") as file:
         file.seek(200)
         file.write(b"XXXX")
-    hold("printed", pulled_line("a:latest", 5, 3), room.layers("pull", source, "a"))
+    hold("printed", pulled_line("a:latest", 5, 3, room.store), room.layers("pull", source, "a"))
     done = room.tried("verify")
     hold("what is wrong", (1, True), (done.returncode, done.stdout.startswith(changed + ": its digest is")))
-    hold("printed", pulled_line("a:latest", 5, 1), room.layers("pull", source, "a"))
+    hold("printed", pulled_line("a:latest", 5, 1, room.store), room.layers("pull", source, "a"))
     hold("verified", "", room.layers("verify"))
     hold("shown", made.SHOWN, shown_by(room, mounted_layers(room, "a:latest")))
 
@@ -281,7 +281,7 @@ def check_shared(room):
                                     made.archive(made.entry("y", b"y"))))
     room.layers("pull", "oci:" + one.path, "one")
     before = room.blobs()
-    hold("printed", pulled_line("two:latest", 5, 2), room.layers("pull", "oci:" + two.path, "two"))
+    hold("printed", pulled_line("two:latest", 5, 2, room.store), room.layers("pull", "oci:" + two.path, "two"))
     hold("how many layers", 7, len(room.blobs()))
     hold("pruned", "0 layers removed, 0 bytes; 0 are in use by a mount\n", room.layers("prune"))
     room.layers("remove", "two")
@@ -312,7 +312,7 @@ def check_rows_of_the_layers_below(room):
     for order in ((0, 1), (1, 0)):
         store = room.name()
         for number, new in [(it, 2) for it in order] + [(it, 0) for it in order]:
-            hold("printed", pulled_line("a%d:1" % number, 2, new),
+            hold("printed", pulled_line("a%d:1" % number, 2, new, store),
                  room.layers("pull", "oci:" + sources[number].path, "a%d:1" % number, store=store))
         blobs.append(room.blobs(store))
         for number, it in ((0, 1), (1, 2)):
@@ -355,15 +355,17 @@ def check_names(room):
     hold("what is no store", ["new", "work"], sorted(os.listdir(other)))
     for place in (room.name(), os.path.join(room.path, "other", "new")):
         for words in (("images",), ("config", "a:1")):
-            room.refused("%s: no store of layers; `strata-layers pull SOURCE NAME` makes one" % place, *words, store=place)
+            room.refused("%s: no store of layers; `strata-layers pull --store %s SOURCE NAME` makes one" % (place, place),
+                         *words, store=place)
 
 
 def check_hints(room):
     """What is named that is not there is answered with what to do; and nothing is said to nobody who reads."""
     room.layers("pull", "oci:" + made.layout(room.name()).path, "a:1")
     for verb, *more in (("config",), ("config", "--bwrap"), ("podman", "--layers")):
-        room.refused("nosuch: no such image in %s; `strata-layers pull SOURCE nosuch` brings it there, and `strata-layers images` prints"
-                     " those there" % room.store, verb, *more, "nosuch", *[room.name()] * (verb == "podman"))
+        room.refused("nosuch: no such image in %s; `strata-layers pull --store %s SOURCE nosuch` brings it there, and `strata-layers"
+                     " images --store %s` prints those there" % ((room.store,) * 3), verb, *more, "nosuch",
+                     *[room.name()] * (verb == "podman"))
     place = room.name()
     os.mkdir(place)
     for word in (place, place + ":1"):
@@ -578,14 +580,14 @@ def printed_examples():
 
 
 def check_examples_of_the_page(room):
-    """The examples of the page print what they say, but for a digest; all verbs of the store are among them."""
+    """The examples of the page print what they say, but for a digest and the store's place; all verbs of the store are among them."""
     source = made.Layout(os.path.join(room.path, "layout"),
                          {"Entrypoint": ["/bin/say"], "Cmd": ["hello"], "Env": ["PATH=/bin"], "User": "7:8"})
     source.index(made.tagged(source.image(made.LAYERS[:3]), "1"))
     verbs = set()
     for (verb, *words), printed in printed_examples():
         verbs.add(verb)
-        got = room.layers(verb, *words)
+        got = room.layers(verb, *words).replace(" --store " + room.store, "")
         hold(verb, *(re.sub("sha256:[0-9a-f.]+", "sha256:..", it) for it in (printed, got)))
     hold("verbs", {"convert", "pull", "images", "verify", "config", "remove", "prune"}, verbs)
 

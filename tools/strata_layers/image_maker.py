@@ -139,6 +139,7 @@ class Maker:
         except BadEntry as bad:
             self.refuse(path, bad)
         else:
+            self.lost.hold_names(self.image.parts[-1].nodes)
             if not is_marker(path):
                 self.lost.note_entry(self.where, path, entry)
 

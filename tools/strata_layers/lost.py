@@ -94,6 +94,9 @@ class Lost:
         if not TIME_LEAST <= entry.time[0] <= TIME_MOST:
             self.note("times", front + path_text(path))
 
+    def hold_names(self, count):
+        """Refused where an image may not have so many names; here it may have as many as it holds."""
+
     def lines(self):
         """A line for each kind, with the names that are known behind it."""
         for kind in LOST:

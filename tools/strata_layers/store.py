@@ -21,7 +21,8 @@ from strata_format import ends
 from strata_format.files import READING, data_parts, make_folder, names_in, new_file, open_folder, write_all
 from strata_format.json_text import value_of
 from strata_format.progress import unheard
-from strata_format.refused import Refused, faults_below, shown
+from strata_format.refused import Refused, faults_below, one_line, shown
+from strata_format.words import quoted
 
 SYSTEM = "/var/lib"
 MARK, MARK_TEXT = "strata-store", b"1\n"
@@ -52,6 +53,12 @@ def default_place():
     if not os.path.isabs(home):
         home = os.path.join(os.path.expanduser("~"), ".local", "share")
     return os.path.join(home, "strata")
+
+
+def told_verb(verb, place, *names):
+    """How a verb of strata-layers is called for the store at a place, which is named unless it is the usual one."""
+    where = ["--store " + one_line(quoted([place]))] * (os.path.abspath(place) != os.path.abspath(default_place()))
+    return "`%s`" % " ".join(["strata-layers", verb, *where, *names])
 
 
 def are_digits(text):
@@ -177,7 +184,7 @@ class Store:
 
     def none_yet(self):
         """Why there is no store where one could be made."""
-        return Refused(NO_STORE % self.name + "; `strata-layers pull SOURCE NAME` makes one")
+        return Refused("%s; %s makes one" % (NO_STORE % self.name, told_verb("pull", self.place, "SOURCE", "NAME")))
 
     def hold_own(self):
         """Sees that nobody else may write in the store's folders: who may could lead what is

@@ -7,7 +7,7 @@ from strata_format.json_text import value_of
 from strata_format.progress import Progress
 from strata_format.records import record
 from strata_format.refused import Refused, shown
-from strata_layers.store import DIGEST, Shared, Store, are_digits, default_place, digits_of, file_digits
+from strata_layers.store import DIGEST, Shared, Store, are_digits, default_place, digits_of, file_digits, told_verb
 
 # the letters of names and tags, and which of them don't begin one
 ALPHABET = frozenset("ABCDEFGHIJKLMNOPQRSTUVWXYZabcdefghijklmnopqrstuvwxyz0123456789._-")
@@ -41,9 +41,9 @@ class NoImage(Refused):
     """A store has no image of a name."""
 
 
-def brought(name):
-    """What is said of how an image is brought into a store."""
-    return "`strata-layers pull SOURCE %s` brings it there" % shown(name)
+def brought(name, place):
+    """What is said of how an image is brought into the store at a place."""
+    return "%s brings it there" % told_verb("pull", place, "SOURCE", shown(name))
 
 
 def is_word(text, not_first):
@@ -219,8 +219,8 @@ def held_layer(store, layer, word, heard):
             raise Refused(missing)
         if found.st_size != layer.size or heard and file_digits(number, heard) != layer.digits:
             where = shown(os.fsencode(store.path_of(layer.digits)))
-            raise Refused("%s: its layer %s has other bytes than its digest says; run `strata-layers"
-                          " verify`, and pull it again" % (word, where))
+            raise Refused("%s: its layer %s has other bytes than its digest says; run %s, and pull it again"
+                          % (word, where, told_verb("verify", store.place)))
     except BaseException:
         os.close(number)
         raise
@@ -309,8 +309,9 @@ def mounted_words(words, place=None, is_verified=False):
     that it was made to lie on; and of each path the fs-verity digest that the store says, or None.
     OSError if an image can't be opened."""
     paths, marks, parents, digests = [], [], {}, []
+    place = place or default_place()
     try:
-        store = store_for(words, place or default_place())
+        store = store_for(words, place)
         for word in words:
             image = image_meant(word, store)
             if image is None:
@@ -325,6 +326,6 @@ def mounted_words(words, place=None, is_verified=False):
                 parents.setdefault(paths[-1], set()).add(it.parent)
     except Refused as refused:
         where, _, why = str(refused).partition(": ")
-        hint = "; " + brought(where.partition(PIN)[0]) if isinstance(refused, NoImage) else ""
+        hint = "; " + brought(where.partition(PIN)[0], place) if isinstance(refused, NoImage) else ""
         raise OSError(0, why + hint, where) from None
     return paths, marks, parents, digests

@@ -5,12 +5,11 @@ import os
 
 from strata_format.progress import Progress
 from strata_format.refused import Refused
-from strata_layers.store import TREE, pieces_of
+from strata_layers.store import TREE, pieces_of, told_verb
 from strata_layers.verity import DIGEST, sealed_pieces, tree_size
 
 ALGORITHM = "sha256"
-OTHER_BYTES = ("%s: the layer sha256:%s has other bytes than its digest says; run `strata-layers"
-               " verify`, and pull again")
+OTHER_BYTES = "%s: the layer sha256:%s has other bytes than its digest says; run %s, and pull again"
 
 
 def record_of(digits):
@@ -43,7 +42,7 @@ def made_digest(store, number, digits):
     """The digest of a layer in an open file, which has no tree yet, if its bytes are right."""
     found, seal = sealed_file(number)
     if found != digits:
-        raise Refused(OTHER_BYTES % (store.name, digits))
+        raise Refused(OTHER_BYTES % (store.name, digits, told_verb("verify", store.place)))
     keep_seal(store, digits, seal)
     return seal.digest
 

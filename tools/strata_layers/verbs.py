@@ -41,12 +41,13 @@ def store_of(asked, make=False):
 
 def name_there(store, word):
     """The whole name of an image that is read; where there is none, with what to do."""
+    from strata_layers.store import told_verb
     from strata_layers.store_images import NoImage, brought, full_name
     try:
         return full_name(store, word)
     except NoImage as refused:
-        why = "%s; %s, and `strata-layers images` prints those there"
-        raise Refused(why % (refused, brought(word))) from None
+        why = "%s; %s, and %s prints those there"
+        raise Refused(why % (refused, brought(word, store.place), told_verb("images", store.place))) from None
 
 
 # --- what each verb does: it loads what it needs, as all loads longer than a small image takes ---
@@ -74,6 +75,7 @@ def run_convert(asked):
 def run_pull(asked):
     from strata_layers.layer_order import wrong_order_of
     from strata_layers.pull import pull
+    from strata_layers.store import told_verb
     from strata_layers.store_images import image_in, layers_text
     lost, store = Lost(asked.leave_out, asked.fail_on_lost, asked.no_xattrs), store_of(asked, make=True)
     name, count, new = pull(store, asked.source, asked.name, asked.platform, lost)
@@ -82,7 +84,7 @@ def run_pull(asked):
         ends.write(line + "\n")
     line = "%s: %s, %d of them new" % (name, layers_text(count), new)
     if new < count:
-        line += ", %d not read again (`strata-layers verify` does that)" % (count - new)
+        line += ", %d not read again (%s does that)" % (count - new, told_verb("verify", store.place))
     print_line(line, "the image is in the store")
     return 0
 

@@ -12,7 +12,7 @@ from strata_format import image_files, romfs
 from strata_format.refused import Refused, shown
 from strata_layers import tars
 from strata_layers.layer_order import split_blob
-from strata_layers.store import default_place
+from strata_layers.store import MARK, default_place, told_verb
 from strata_layers.store_images import brought, may_be_stored
 from strata_mount import dead_mounts, packed_files
 from strata_mount.meant import SOURCES, pulled
@@ -29,7 +29,7 @@ TAR_MOST = 10000
 FILES_BESIDE = 16
 MAKE = "`strata-layers image FOLDER IMAGE` makes an image from a directory"
 OF_LAYOUT = "`strata-layers LAYOUT FOLDER` makes images of its layers"
-MENDED = "; `strata-layers verify` makes a tree again, or sets a damaged image aside for `strata-layers pull` to bring"
+MENDED = "; %s makes a tree again, or sets a damaged image aside for %s to bring"
 BROKEN_IMAGE = "the file is damaged or was badly made: make it again"
 # what each rule means, in the order in which rules are named
 RULES = {
@@ -114,14 +114,22 @@ def unreadable(path, count, store):
     return not_open(count) if fault is None else fault_told(path, fault, store)
 
 
+def store_of(path):
+    """The place of the store that a file is a layer of, or None."""
+    folder, _ = split_blob(path)
+    return folder if folder is not None and os.path.exists(os.path.join(folder, MARK)) else None
+
+
 def unsealed(path):
     """Why an image is not the one that its digest names."""
+    store = store_of(path)
+    verify, pull = (told_verb(it, store) if store else "" for it in ("verify", "pull"))
     try:
         front_of(path + TREE, 1)
     except OSError as fault:
-        how = "`strata-layers verify` makes it again" if split_blob(path)[0] else "`strata-layers seal` makes the tree of an image"
+        how = verify + " makes it again" if store else "`strata-layers seal` makes the tree of an image"
         return "its tree %s: %s; %s" % (shown(os.fsencode(path + TREE)), fault.strerror.lower(), how)
-    how = MENDED if split_blob(path)[0] else ""
+    how = MENDED % (verify, pull) if store else ""
     return "the image or its tree was changed, or the digest is another image's" + how
 
 
@@ -143,15 +151,16 @@ def is_layout(folder):
 def not_there(path, store):
     """What is said of a word that names no file: it may mean an image of the store, or one to
     bring there."""
+    store = store or default_place()
     if path.startswith(SOURCES):
-        return "no such file; " + pulled(path)
+        return "no such file; " + pulled(path, store)
     folder, colon, _ = path.rpartition(":")
     if colon and is_layout(folder):
         return "no such file; %s is an OCI layout: %s" % (shown(folder), OF_LAYOUT.replace("LAYOUT", shown(path)))
     if path.endswith(".romfs"):
         return "no such file or directory"
     if may_be_stored(path):
-        return "no such file, and no such image in %s; %s" % (shown(store or default_place()), brought(path))
+        return "no such file, and no such image in %s; %s" % (shown(store), brought(path, store))
     return "no such file or directory"
 
 

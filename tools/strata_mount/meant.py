@@ -3,6 +3,7 @@ image of the store."""
 import os
 
 from strata_format.refused import one_line
+from strata_layers.store import default_place, told_verb
 from strata_layers.store_images import PIN, may_be_stored
 from strata_layers.transports import TRANSPORTS, layout_made
 
@@ -10,21 +11,21 @@ from strata_layers.transports import TRANSPORTS, layout_made
 SOURCES = "docker://", "oci:", *TRANSPORTS
 
 
-def pulled(source):
-    """How what an image is pulled from comes into the store."""
+def pulled(source, store=None):
+    """How what an image is pulled from comes into the store at a place, or the usual one."""
     import shlex
-    told = "`strata-layers pull %s NAME` brings it into the store as image:NAME"
-    if source.startswith(TRANSPORTS):
-        return "%s, and %s" % (layout_made(source), told % "oci:LAYOUT:TAG")
-    return told % one_line(shlex.quote(source))
+    is_copied = source.startswith(TRANSPORTS)
+    word = "oci:LAYOUT:TAG" if is_copied else one_line(shlex.quote(source))
+    told = "%s brings it into the store as image:NAME" % told_verb("pull", store or default_place(), word, "NAME")
+    return "%s, and %s" % (layout_made(source), told) if is_copied else told
 
 
-def hold_names(words):
-    """Looks that no word says `image:` of what an image is pulled from."""
+def hold_names(words, store):
+    """Looks that no word says `image:` of what an image is pulled from, for the store at a place, or the usual one."""
     for word in words:
         front, _, name = word.partition("image:")
         if not front and name.startswith(SOURCES) and not may_be_stored(name):
-            raise OSError(0, "no name of an image; " + pulled(name), name)
+            raise OSError(0, "no name of an image; " + pulled(name, store), name)
 
 
 def hold_unpinned(words):

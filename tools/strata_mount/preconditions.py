@@ -77,7 +77,7 @@ def find_images(plan):
     if plan.store is not None or plan.verify or not all(map(os.path.lexists, plan.images)):
         from strata_layers import store_images
         from strata_mount import meant
-        meant.hold_names(plan.images)
+        meant.hold_names(plan.images, plan.store)
         found = store_images.mounted_words(plan.images, plan.store, plan.verify)
         if plan.is_unsealed:
             meant.hold_unpinned(plan.images)

@@ -7,11 +7,20 @@
 
 A field or a value may be quoted as a string of Go is, a regular expression also between `/` or `|`.
 
-    match = any_of(['name==a,labels."b.c"', "kind==view"])
-    match(lambda path: value or None)            path: the names of a field, as ("labels", "b.c")
-"""
-import re
+    filters = parsed(['name==a,labels."b.c"', "kind==view"])
+    matches(filters, [{"name": "a", "labels": {"b.c": ""}}, {"name": "b", "labels": {}}]) == [True, False]
 
+Python's search for a regular expression may take for ever, and no other thread runs meanwhile. So it has
+a process of its own, which is ended after some seconds of a processor's time.
+"""
+import collections
+import json
+import re
+import resource
+import subprocess
+import sys
+
+from strata_format.version import TOP
 from strata_snapshotter.faults import InvalidArgument
 
 QUOTED = r'"(?:[^"\\\n]|\\.)*"'
@@ -25,6 +34,15 @@ PART = re.compile(r"([^\\]+)|\\(?:x([0-9A-Fa-f]{2})|([0-7]{3})|u([0-9A-Fa-f]{4})
                   r"|U([0-9A-Fa-f]{8})|([^xuU0-7]))")
 LETTERS = dict(zip("abfnrtv\\", "\a\b\f\n\r\t\v\\"))
 BYTE_MOST, CHARACTER_MOST = 0xff, 0x10ffff
+SEARCH = "~="
+# so much of a processor's time, and of memory, may searches take
+SECONDS, MEMORY = 2, 1 << 30
+# how they are begun, from the folder of the modules
+CODE = ("import sys; sys.path.insert(0, sys.argv[1]); "
+        "from strata_snapshotter.filters import search; search()")
+
+# the names of a field, as ("labels", "b.c"), and what it is compared with; without an operator None
+Selector = collections.namedtuple("Selector", "path operator wanted")
 
 
 def wrong(text, at, why):
@@ -82,15 +100,14 @@ class Parser:
         return is_there
 
     def selector(self):
-        """A function that says whether a selector matches fields."""
+        """The next selector."""
         path = [self.taken(FIELD, "field")]
         while self.is_next("."):
             path.append(self.taken(FIELD, "field"))
         if self.at == len(self.text) or self.text[self.at] == ",":
-            return lambda value_of: value_of(tuple(path)) is not None
+            return Selector(path, None, None)
         operator = self.taken(OPERATOR, "operator")
-        wanted = self.taken(PATTERN if operator == "~=" else VALUE, "value")
-        return selector_of(tuple(path), operator, wanted)
+        return Selector(path, operator, self.taken(PATTERN if operator == SEARCH else VALUE, "value"))
 
     def selectors(self):
         found = [self.selector()]
@@ -101,26 +118,63 @@ class Parser:
         return found
 
 
-def selector_of(path, operator, wanted):
-    """A function that says whether a field has a value, as an operator compares it. One that isn't
-    present differs from every value but the empty one; a pattern that is none matches nothing."""
-    if operator == "==":
-        return lambda value_of: value_of(path) == wanted
-    if operator == "!=":
-        return lambda value_of: (value_of(path) or "") != wanted
-    try:
-        pattern = re.compile(wanted)
-    except re.error:
-        return lambda value_of: False
-    return lambda value_of: pattern.search(value_of(path) or "") is not None
+def parsed(texts):
+    """The selectors of each filter. InvalidArgument where one is no filter."""
+    return [Parser(text).selectors() if text else [] for text in texts]
 
 
 # --- matching ---
 
-def any_of(texts):
-    """A function that says whether fields match any of some filters; without filters, all do.
-    InvalidArgument where one is no filter."""
-    every = [Parser(text).selectors() if text else [] for text in texts]
-    if not every:
-        return lambda value_of: True
-    return lambda value_of: any(all(it(value_of) for it in found) for found in every)
+def value_of(fields, path):
+    """The value of a field, or None where it isn't present."""
+    if path[0] == "labels":
+        return fields["labels"].get(".".join(path[1:]))
+    return fields.get(path[0])
+
+
+def is_selected(selector, fields):
+    """Whether a selector matches fields. One that isn't present differs from every value but the empty
+    one; a pattern that is none matches nothing."""
+    path, operator, wanted = selector
+    value = value_of(fields, path)
+    if operator is None:
+        return value is not None
+    if operator == "==":
+        return value == wanted
+    if operator == "!=":
+        return (value or "") != wanted
+    try:
+        return re.search(wanted, value or "") is not None
+    except (re.error, OverflowError, RecursionError):
+        return False
+
+
+def matches(filters, every):
+    """Of each of some fields, whether they match any of some filters; without filters, all do.
+    InvalidArgument where that takes too long."""
+    if any(it.operator == SEARCH for found in filters for it in found):
+        return searched(filters, every)
+    return [matches_any(filters, it) for it in every]
+
+
+def matches_any(filters, fields):
+    return not filters or any(all(is_selected(it, fields) for it in found) for found in filters)
+
+
+def searched(filters, every):
+    """The same in a process of its own."""
+    done = subprocess.run([sys.executable, "-IBS", "-c", CODE, TOP], input=json.dumps([filters, every]).encode(),
+                          stdout=subprocess.PIPE, stderr=subprocess.DEVNULL, cwd="/", env={}, check=False)
+    if done.returncode != 0:
+        raise InvalidArgument("the filters' regular expressions take more than %d seconds of a processor, or"
+                              " %d MiB: status %d" % (SECONDS, MEMORY >> 20, done.returncode))
+    return json.loads(done.stdout)
+
+
+def search():
+    """What the process does."""
+    resource.setrlimit(resource.RLIMIT_CPU, (SECONDS, SECONDS))
+    resource.setrlimit(resource.RLIMIT_AS, (MEMORY, MEMORY))
+    filters, every = json.load(sys.stdin)
+    filters = [[Selector(*it) for it in found] for found in filters]
+    json.dump([matches_any(filters, it) for it in every], sys.stdout)

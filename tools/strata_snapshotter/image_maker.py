@@ -137,6 +137,8 @@ class ImageMaker:
 
     def first(self):
         """The layer of which an image is to be made first, or None. The lock must be held."""
+        if self.state.is_lost:
+            return None
         for number in self.waited_for:
             pending = [it for it in self.chain_of(number) if it.form == Form.PENDING]
             if pending:

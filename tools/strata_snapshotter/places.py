@@ -17,10 +17,11 @@ import os
 import secrets
 import shutil
 import stat
+import subprocess
 
 from strata_format.files import copy_front, write_all
 from strata_format.progress import unheard
-from strata_format.refused import Refused, shown
+from strata_format.refused import Refused, one_line, shown
 from strata_layers.store import heard_pieces
 from strata_layers.verity import TREE, seal_of
 
@@ -165,7 +166,7 @@ def remove(path):
         return
     try:
         if os.path.isdir(path) and not os.path.islink(path):
-            shutil.rmtree(path)
+            remove_folder(path)
         else:
             os.unlink(path)
     except FileNotFoundError:
@@ -174,18 +175,44 @@ def remove(path):
         logging.warning("%s stays for now: %s", path, fault.strerror)
 
 
+def remove_folder(path):
+    """Removes a folder with all in it. Python's own function goes so deep only, and a container may have
+    made folders within folders without end."""
+    try:
+        shutil.rmtree(path)
+    except RecursionError:
+        done = subprocess.run(["rm", "-rf", "--", path], stdin=subprocess.DEVNULL,
+                              stdout=subprocess.DEVNULL, stderr=subprocess.PIPE, check=False)
+        if done.returncode != 0:
+            raise OSError(0, one_line(done.stderr.decode(errors="replace").strip())) from None
+
+
+def found_in(path):
+    """What a file is, or a folder and all in it. What vanishes meanwhile is left out, and so is what lies
+    so deep that no path leads there."""
+    todo = [path]
+    with contextlib.suppress(FileNotFoundError):
+        yield os.lstat(path)
+    while todo:
+        with contextlib.suppress(OSError), os.scandir(todo.pop()) as entries:
+            for it in entries:
+                with contextlib.suppress(OSError):
+                    found = it.stat(follow_symlinks=False)
+                    if stat.S_ISDIR(found.st_mode):
+                        todo.append(it.path)
+                    yield found
+
+
 def usage(path):
     """The bytes on disk and the inodes of a file, or of a folder with all in it, each hard link
-    once. What vanishes meanwhile is not counted."""
-    size, seen, todo = 0, set(), [path]
-    while todo:
-        with contextlib.suppress(FileNotFoundError, NotADirectoryError):
-            here = todo.pop()
-            found = os.lstat(here)
-            if (found.st_dev, found.st_ino) not in seen:
-                seen.add((found.st_dev, found.st_ino))
-                size += found.st_blocks * 512
-            if stat.S_ISDIR(found.st_mode):
-                with os.scandir(here) as entries:
-                    todo += [it.path for it in entries]
-    return size, len(seen)
+    once."""
+    size, count, linked = 0, 0, set()
+    for found in found_in(path):
+        key = found.st_dev, found.st_ino
+        if found.st_nlink > 1 and not stat.S_ISDIR(found.st_mode):
+            if key in linked:
+                continue
+            linked.add(key)
+        size += found.st_blocks * 512
+        count += 1
+    return size, count

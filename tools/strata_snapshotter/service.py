@@ -7,7 +7,7 @@ import time
 
 import grpc
 
-from strata_format.refused import Refused
+from strata_format.refused import Refused, one_line
 from strata_snapshotter import faults
 from strata_snapshotter.messages import API, CALLS, SERVICE
 from strata_snapshotter.snapshots import labels_of
@@ -22,8 +22,10 @@ STATUSES = {
 }
 # so many calls are answered at once: one that waits for an image takes one of them
 THREADS = 64
-# so many snapshots stand in one message of a list
-LISTED = 100
+# so many bytes of snapshots stand in one message of a list, unless one alone has more: containerd takes 16 MiB
+LISTED = 1 << 20
+# the most characters of what a status says, since clients bound it, too
+SAID_MOST = 1000
 SECOND = 10 ** 9
 
 
@@ -77,9 +79,15 @@ class Service:
         return API.UpdateSnapshotResponse(info=info_of(found))
 
     def List(self, asked, _):
-        found = self.snapshots.list(list(asked.filters))
-        for at in range(0, len(found), LISTED):
-            yield API.ListSnapshotsResponse(info=map(info_of, found[at:at + LISTED]))
+        part, size = [], 0
+        for info in map(info_of, self.snapshots.list(list(asked.filters))):
+            size += info.ByteSize()
+            if part and size > LISTED:
+                yield API.ListSnapshotsResponse(info=part)
+                part, size = [], info.ByteSize()
+            part.append(info)
+        if part:
+            yield API.ListSnapshotsResponse(info=part)
 
     def Usage(self, asked, _):
         size, inodes = self.snapshots.usage(asked.key)
@@ -101,10 +109,10 @@ def told(name, context):
         logging.debug("%s: %.1f ms", name, 1000 * (time.monotonic() - begin))
     except faults.Fault as fault:
         logging.debug("%s: %s", name, fault)
-        context.abort(STATUSES[type(fault)], str(fault))
+        context.abort(STATUSES[type(fault)], one_line(str(fault))[:SAID_MOST])
     except (OSError, sqlite3.Error, Refused) as fault:
         logging.error("%s: %s", name, fault)
-        context.abort(grpc.StatusCode.UNAVAILABLE, "strata-snapshotter: %s" % fault)
+        context.abort(grpc.StatusCode.UNAVAILABLE, "strata-snapshotter: " + one_line(str(fault))[:SAID_MOST])
 
 
 def handler(name, call):

@@ -22,7 +22,7 @@ from strata_snapshotter.background import begin_after, told_as_warning
 from strata_snapshotter.chain_mounts import ChainMounts
 from strata_snapshotter.faults import (
     AlreadyExists, FailedPrecondition, InvalidArgument, NotFound)
-from strata_snapshotter.filters import any_of
+from strata_snapshotter.filters import matches, parsed
 from strata_snapshotter.given_image import given_image
 from strata_snapshotter.image_maker import LAYERS_MOST, ImageMaker, tell_folder
 from strata_snapshotter.ready_layers import REFERENCE, is_highest
@@ -50,20 +50,18 @@ def labels_of(snapshot):
     return {**snapshot.labels, FOLDER: snapshot.why[:WHY_MOST]}
 
 
-def field_of(snapshot, path):
-    """The value of a field for filters, or None where it isn't present."""
-    if path[0] == "labels":
-        return labels_of(snapshot).get(".".join(path[1:]))
-    fields = {"name": snapshot.name, "parent": snapshot.parent_name,
-              "kind": snapshot.kind.name.lower()}
-    return fields.get(path[0])
+def fields_of(snapshot):
+    """The fields of a snapshot for filters."""
+    return {"name": snapshot.name, "parent": snapshot.parent_name,
+            "kind": snapshot.kind.name.lower(), "labels": labels_of(snapshot)}
 
 
 class Snapshots:
     """All snapshots of a root; every call may come from any thread."""
 
     def __init__(self, held, program, ready, keep, is_waiting=False):
-        self.places, self.ready, self.state = held, ready, State(held.at("state.db"))
+        self.places, self.ready = held, ready
+        self.state = State(held.at("state.db"), bool(held.numbers("snapshots")))
         # whether containers wait until all that they lie on are images
         self.is_waiting = is_waiting
         self.mounts_of = ChainMounts(held, program, keep)
@@ -84,7 +82,8 @@ class Snapshots:
         """Unmounts what is only kept, and ends the use of the state, so that it stands in one
         file."""
         with self.ahead.lock, self.lock:
-            self.mounts_of.release(self.state.used(True), set())
+            with told_as_warning("mounts stay"):
+                self.mounts_of.release(self.state.used(True), set())
             self.mounts_of.close()
             self.state.close()
 
@@ -102,10 +101,10 @@ class Snapshots:
 
     def list(self, filters):
         """The snapshots that match any of some filters."""
-        match = any_of(filters)
+        filters = parsed(filters)
         with self.lock:
             every = self.state.every()
-        return [it for it in every if match(lambda path, it=it: field_of(it, path))]
+        return list(itertools.compress(every, matches(filters, [*map(fields_of, every)])))
 
     def usage(self, name):
         """The bytes and inodes that a snapshot takes itself."""
@@ -133,9 +132,9 @@ class Snapshots:
             return self.created(name, parent_name, kind, labels, is_early)
 
     def is_pending(self, parent):
-        """Whether images are still to be made of a parent (or None) or of what it lies on. The lock
-        must be held."""
-        return any(it.form == Form.PENDING for it in self.state.chain(parent))
+        """Whether images are still to be made of a parent (or None) or of what it lies on, by now. The
+        lock must be held."""
+        return parent is not None and any(it.form == Form.PENDING for it in self.maker.chain_of(parent.id))
 
     def created(self, name, parent_name, kind, labels, is_early):
         """Makes a snapshot, over what its parent's files are in by now; its mounts."""
@@ -296,10 +295,13 @@ class Snapshots:
         with self.lock:
             snapshot = self.committable(name, key)
             why = self.maker.folder_reason(snapshot)
-            form, taken = Form.PENDING, (0, 0)
-            if why is not None:
-                form, taken = Form.FOLDER, places.usage(self.places.files(snapshot.id))
-                tell_folder(name, why)
+        form, taken = Form.PENDING, (0, 0)
+        if why is not None:
+            form, taken = Form.FOLDER, places.usage(self.places.files(snapshot.id))
+            tell_folder(name, why)
+        with self.lock:
+            if self.committable(name, key).id != snapshot.id:
+                raise NotFound("snapshot %s: not found" % key)
             with self.state.transaction():
                 self.state.commit(snapshot, name, labels, form)
                 self.state.settle(snapshot.id, form, taken, why=why)

@@ -9,12 +9,16 @@ import collections
 import contextlib
 import enum
 import json
+import logging
+import os
 import sqlite3
 import time
 
 from strata_format.refused import Refused, one_line, shown
 
 VERSION = 1
+# the ends of the names of files: of what SQLite has beside a database, and of a copy of one that is lost
+BESIDE, KEPT = ("-wal", "-shm"), ".kept"
 SCHEMA = """
 CREATE TABLE snapshots(
   id INTEGER PRIMARY KEY AUTOINCREMENT, name TEXT NOT NULL UNIQUE,
@@ -87,13 +91,26 @@ def snapshot_of(row):
     return found
 
 
-class State:
-    """The open database. Refused where it is damaged, or of another version."""
+def has_bytes(path):
+    """Whether a database is there, and not empty."""
+    try:
+        return os.stat(path).st_size > 0
+    except FileNotFoundError:
+        return False
 
-    def __init__(self, path):
+
+class State:
+    """The open database, which is made where none is there. Refused where it is damaged, of another
+    version, or missing beside snapshots: by a new one these would be removed."""
+
+    def __init__(self, path, has_snapshots=False):
+        self.path, self.has_snapshots, self.is_lost = path, has_snapshots, False
         try:
+            if has_snapshots and not has_bytes(path):
+                raise sqlite3.DatabaseError("missing or empty, and there are snapshots")
             self.base = sqlite3.connect(path, check_same_thread=False, isolation_level=None)
             self.prepare()
+            self.opened = os.stat(path)
         except sqlite3.Error as fault:
             raise Refused("%s: %s; restore it, or remove it with the folder that it is in, and "
                           "pull the images again" % (shown(path), one_line(str(fault)))) from None
@@ -106,7 +123,7 @@ class State:
         if checked != "ok":
             raise sqlite3.DatabaseError("damaged: " + checked.splitlines()[-1])
         version, = self.base.execute("PRAGMA user_version").fetchone()
-        if version == 0:
+        if version == 0 and not self.has_snapshots:
             self.base.executescript("BEGIN;" + SCHEMA + "COMMIT;")
         elif version != VERSION:
             raise sqlite3.DatabaseError("has version %d instead of %d" % (version, VERSION))
@@ -115,11 +132,14 @@ class State:
         self.every()
 
     def close(self):
+        with contextlib.suppress(sqlite3.Error):
+            self.hold_there()
         self.base.close()
 
     @contextlib.contextmanager
     def transaction(self):
         """Makes all changes within it, or none."""
+        self.hold_there()
         self.base.execute("BEGIN IMMEDIATE")
         try:
             yield
@@ -127,6 +147,31 @@ class State:
         finally:
             if self.base.in_transaction:
                 self.base.execute("ROLLBACK")
+
+    def hold_there(self):
+        """Sees that the open file still has its name: changes of another one would be lost. What it
+        holds is kept in a file beside it then."""
+        if not self.is_lost and not self.is_there():
+            self.keep()
+            self.is_lost = True
+            logging.error("%s was removed or replaced: stop the service, and rename %s, which has what it held",
+                          self.path, self.path + KEPT)
+        if self.is_lost:
+            raise sqlite3.DatabaseError("%s was removed or replaced" % self.path)
+
+    def is_there(self):
+        try:
+            return os.path.samestat(os.stat(self.path), self.opened)
+        except FileNotFoundError:
+            return False
+
+    def keep(self):
+        """Copies what the database holds. What SQLite has beside it is no other database's."""
+        with contextlib.closing(sqlite3.connect(self.path + KEPT)) as kept:
+            self.base.backup(kept)
+        for end in BESIDE:
+            with contextlib.suppress(FileNotFoundError):
+                os.unlink(self.path + end)
 
     # --- what is there ---
 

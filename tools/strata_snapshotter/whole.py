@@ -5,6 +5,8 @@ from strata_layers.lost import LOST, Lost
 
 # a security module labels files anew, as a mount says
 LABELS = (b"security.selinux",)
+# each takes up to 700 bytes of memory while an image is made
+NAMES_MOST = 1 << 21
 
 
 class Nothing(Lost):
@@ -12,6 +14,10 @@ class Nothing(Lost):
 
     def keeps(self, name):
         return name not in LABELS
+
+    def hold_names(self, count):
+        if count > NAMES_MOST:
+            raise Refused("it has more than %d names" % NAMES_MOST)
 
     def note(self, kind, where, names=()):
         names = [it for it in names if self.keeps(it)]
