@@ -75,11 +75,17 @@ if [ "$1" = configure ] && [ -n "$2" ] && [ -d /run/systemd/system ]; then
     deb-systemd-invoke restart strata-snapshotter.service > /dev/null || true
 fi
 """
+# containers keep the mounts below their roots, and each server ends with the last one; nothing would unmount these later
 SNAPSHOTTER_PRERM = """\
 #!/bin/sh
 set -e
-if [ "$1" = remove ] && [ -d /run/systemd/system ]; then
-    deb-systemd-invoke stop strata-snapshotter.service strata-snapshotter.socket > /dev/null || true
+if [ "$1" = remove ]; then
+    if [ -d /run/systemd/system ]; then
+        deb-systemd-invoke stop strata-snapshotter.service strata-snapshotter.socket > /dev/null || true
+    fi
+    for place in /var/lib/strata-snapshotter/mounts/*; do
+        umount "$place" 2> /dev/null || true
+    done
 fi
 """
 # the links are those of `systemctl enable`, which lead to nothing once the package is removed

@@ -24,6 +24,8 @@ PATHS = ("bin/strata", "bin/strata-mount", "bin/strata-layers", "sbin/mount.stra
 # the package of the snapshotter, which is made beside that of strata
 SNAPSHOTTER = "strata-snapshotter_"
 POLICY = "/usr/sbin/policy-rc.d"
+# where it mounts a chain of layers
+CHAIN = "/var/lib/strata-snapshotter/mounts/7"
 # where `systemctl enable` links its units
 WANTED = (("multi-user.target", "strata-snapshotter.service"), ("sockets.target", "strata-snapshotter.socket"))
 
@@ -69,7 +71,8 @@ def package(root):
 
 
 def service(root):
-    """The snapshotter's service is started anew when its package is upgraded, stopped when it is removed, and stays enabled nowhere."""
+    """The snapshotter's service is started anew when its package is upgraded, and stopped when it is removed; then it stays
+    enabled nowhere, and none of its mounts is left."""
     root.needs("dpkg", "dpkg-deb", "strip", "deb-systemd-invoke")
     made(root, "deb", ".deb")
     root.enter()
@@ -86,14 +89,17 @@ def service(root):
     for link in links:
         os.makedirs(os.path.dirname(link), exist_ok=True)
         os.symlink("/lib/systemd/system/" + os.path.basename(link), link)
-    for words, told in ((("--force-depends", "-i", path), []),
-                        (("--force-depends", "-i", path), ["--quiet --system restart strata-snapshotter.service"]),
-                        (("-r", "strata-snapshotter"), ["stop strata-snapshotter.service strata-snapshotter.socket"])):
+    os.makedirs(CHAIN)
+    root.good("mount", "-t", "tmpfs", "tmpfs", CHAIN)
+    install, restart = ("--force-depends", "-i", path), "--quiet --system restart strata-snapshotter.service"
+    stop = "stop strata-snapshotter.service strata-snapshotter.socket"
+    for words, told, is_mounted in ((install, [], True), (install, [restart], True), (("-r", "strata-snapshotter"), [stop], False)):
         done = root.run("dpkg", *words)
         hold("dpkg %s: %s" % (words[0], done.err), 0, done.status)
         hold(" ".join(words), told, list(told_by("/tmp/told")))
+        hold("a mount after dpkg %s" % words[0], is_mounted, os.path.ismount(CHAIN))
     hold("links that are left", [], [link for link in links if os.path.lexists(link)])
-    return "started anew, stopped, and nowhere enabled"
+    return "started anew, stopped, nowhere enabled, and without a mount"
 
 
 def told_by(path):

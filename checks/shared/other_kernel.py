@@ -17,8 +17,9 @@ PACKAGES = os.environ.get("STRATA_KERNEL")
 PROGRAMS = ("cpio", "busybox")
 # what the machine has of memory, in MiB, and for how many seconds it may run
 MEMORY, SECONDS = 512, 300
-# the processor that is emulated: without what makes it slow here, copies byte by byte and guards against spying
-PROCESSOR, KERNEL_WORDS = "max,erms=off,smap=off", "console=ttyS0 panic=-1 mitigations=off"
+# the processor that is emulated: without what makes it slow here, copies byte by byte and guards against spying. On a busy
+# machine a kernel that checks its timer finds that none works
+PROCESSOR, KERNEL_WORDS = "max,erms=off,smap=off", "console=ttyS0 panic=-1 mitigations=off no_timer_check"
 USER_MODE = "linux.uml"
 BEGIN, END = "-- begin", "-- end"
 INIT = """#!/bin/busybox sh
