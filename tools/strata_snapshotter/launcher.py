@@ -6,6 +6,7 @@ That process (launched.py) is started at once, and again where it was killed.
     launcher = Launcher()
     status, said = launcher.run(["--share", "image.romfs", "/mnt"])
 """
+import contextlib
 import os
 import socket
 import subprocess
@@ -19,8 +20,8 @@ CODE = ("import sys; sys.path.insert(0, sys.argv[1]); "
         "from strata_snapshotter.launched import main, words_to_run; "
         "sys.exit(main(words_to_run(), 'strata-mount'))")
 PIECE = 1 << 16
-# a run whose launcher is killed is tried once more
-TRIES = 2
+# a run whose launcher is killed is tried once more, when that one is gone; so many seconds it may take to go
+TRIES, GOING = 2, 5
 
 
 def all_of(source):
@@ -71,6 +72,8 @@ class Launcher:
             said = self.tried(data)
             if said:
                 return said[-1], said[:-1].decode(errors="replace").strip()
+            with contextlib.suppress(subprocess.TimeoutExpired):
+                self.process.wait(GOING)
         return 1, "the process that starts mounts was killed"
 
     def tried(self, data):
