@@ -70,7 +70,7 @@ def own(edit, told, bodies):
     each file as it was checked."""
     for file, line, text in told:
         answers = file.startswith("proofs/") and file.split("/")[1:-1]
-        if answers and any(answers[-1] == name and is_in(answers, it, edit.texts[it]) for it, name in edit.keys):
+        if answers and any(answers[-1] in (name, "+" + name) and is_in(answers, it, edit.texts[it]) for it, name in edit.keys):
             yield text
         if any(it == file and bodies[file][at].first < line <= bodies[file][at].ends + 1 for it, at in edit.changes):
             yield text
