@@ -88,7 +88,7 @@ class Running:
             wrong.append("the socket is there still")
         if wrong or done.output or done.seconds > SECONDS:
             habits = ["closes" if it.closes else "is deaf" if it.is_deaf else "stays" for it in clients]
-            kind = Difference if wrong or done.output else TooSlow
+            kind = TooSlow if party.hangs or not wrong and not done.output else Difference
             raise kind("%s: %s; %.1f s of processor time; the clients: %s" % (
                 self.told(words), "; ".join(wrong), done.seconds, ", ".join(habits)))
 
@@ -107,7 +107,7 @@ class Running:
                 got = received_packets(ours, patience)
             except Hanging as hanging:
                 child.kill()
-                raise Difference("%s: %s" % (self.told(words), hanging)) from None
+                raise TooSlow("%s: %s" % (self.told(words), hanging)) from None
             if patience is not None:
                 ours.shutdown(socket.SHUT_RDWR)
             done = runs.ended(child)

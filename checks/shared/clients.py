@@ -252,7 +252,7 @@ class Party:
 
     def __init__(self, clients, folder, path, child):
         self.clients, self.place, self.child = clients, (folder, path, child.pid), child
-        self.told = []
+        self.told, self.hangs = [], False
 
     def ended(self):
         """What each got, and how the program ended, which is killed where something went wrong."""
@@ -270,6 +270,7 @@ class Party:
                 all_got.append(visit.got(lambda: self.look(client, waiting)))
         except Hanging as hanging:
             self.told.append("client %d: %s" % (len(all_got) + 1, hanging))
+            self.hangs = True
         for visit in waiting:
             visit.end.close()
         return all_got

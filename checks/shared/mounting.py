@@ -14,7 +14,7 @@ from strata_format.system import called, libc
 from strata_mount.device import DEVICE
 
 SCRIPT = TOOLS + "/mount.py"
-# a check that does not end is ended after so many seconds; STRATA_SLOWER says how many times as many
+# a check that does not end, nor goes on, is ended after so many seconds; STRATA_SLOWER says how many times as many
 SLOWER = int(os.environ.get("STRATA_SLOWER", "1"))
 SECONDS = 180 * SLOWER
 # how many readers serve a mount for which a check says nothing of that; and the most memory that each but the first takes
@@ -54,6 +54,10 @@ def fails(what, wanted, function, *words, **named):
 
 # --- namespaces and processes ---
 
+# the process that waits for what was called apart
+waiting = 0
+
+
 def enter():
     """Goes into a mount namespace of its own; unprivileged users also into a user namespace, in which they are root."""
     user, group = os.geteuid(), os.getegid()
@@ -92,9 +96,16 @@ def end_children():
             os.waitpid(child, 0)
 
 
+def go_on():
+    """Gives what was called apart its seconds anew: a long check says so after each step, also in a child of its own."""
+    os.kill(waiting, signal.SIGUSR1)
+
+
 def apart(function, is_inside=True):
     """Calls a function in a process and a namespace of its own; what it gave back, or the exception that it ended with."""
-    source, told = os.pipe()
+    global waiting
+    waiting, (source, told) = os.getpid(), os.pipe()
+    signal.signal(signal.SIGUSR1, lambda *_: signal.alarm(SECONDS))
     child = os.fork()
     if child == 0:
         try:
@@ -106,6 +117,7 @@ def apart(function, is_inside=True):
     signal.signal(signal.SIGALRM, lambda *_: os.kill(child, signal.SIGKILL))
     signal.alarm(SECONDS)
     status = os.waitstatus_to_exitcode(os.waitpid(child, 0)[1])
+    signal.signal(signal.SIGUSR1, lambda *_: None)
     signal.alarm(0)
     end_children()
     with os.fdopen(source, "rb") as it:

@@ -8,7 +8,8 @@ against the plain reading, while the memory of strata must not grow), `kills` (2
 `crowd` (100 mounts of the same images at once, eight processes in each), `again` (1,000 mounts one after another),
 `readers` (for so many minutes 16 processes that use a mount of four readers, each killed in what it does) and `failing` (as
 long, eight processes in a mount whose image fails, waits, and tells few or other bytes by turns).
-`--quick` takes fewer steps, and some seconds instead of minutes. Each part prints a line, or says what is missing for it
+`--quick` takes fewer steps, and some seconds instead of minutes. A part may take long on a slow machine, but none of its steps:
+with mounts three minutes, times STRATA_SLOWER, at a pipe or a socket one. Each part prints a line, or says what is missing for it
 here: mounts need /dev/fuse, `largest` 10,000 MiB of free memory for what it reads in full. The status is 0 where no
 part fails.
 """

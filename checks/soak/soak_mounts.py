@@ -11,7 +11,7 @@ import time
 
 from checks.shared import mounting
 from checks.shared.images import Item, flat
-from checks.shared.mounting import Failed, LeftOut, Room, apart, children, fails, hold, places, try_mount
+from checks.shared.mounting import Failed, LeftOut, Room, apart, children, fails, go_on, hold, places, try_mount
 from checks.shared.watched_file import CUT, FAIL, SERVE, TURN, WAIT, WatchedFile, turned
 from checks.soak.soak_streams import Memory, call_once
 from strata_mount.device import DEVICE
@@ -24,8 +24,9 @@ BUSY, SERVING = 16, 4
 MOST_EACH = 6 << 10
 
 
-def inside(program, folder, seconds, function):
-    """What a function of a room tells that is called in a namespace of its own."""
+def inside(program, folder, function):
+    """What a function of a room tells that is called in a namespace of its own. It goes on after each step, so that it may
+    take long on a slow machine, but no step may."""
     why = apart(lambda: try_mount(folder))
     if why != "yes":
         raise LeftOut(why.replace("FAILED: ", ""))
@@ -33,7 +34,6 @@ def inside(program, folder, seconds, function):
     if b"unexpected argument" in usage.stderr:
         raise LeftOut("the program serves no %s" % DEVICE)
     mounting.adopt()
-    mounting.SECONDS = seconds * mounting.SLOWER
     told = apart(lambda: function(Room(program, folder)))
     if told.startswith("FAILED: "):
         raise Failed(told[8:])
@@ -53,13 +53,13 @@ def image_of(room, files):
 
 def crowd(program, folder, count):
     """So many mounts of the same images at once, in each of which eight processes read all files."""
-    return inside(program, folder, 60 + 6 * count, lambda room: crowded(room, count))
+    return inside(program, folder, lambda room: crowded(room, count))
 
 
 def crowded(room, count):
     files = files_of(random.Random(19))
     images = image_of(room, files)
-    mounts = [room.mount(images) for _ in range(count)]
+    mounts = [mounted_next(room, images) for _ in range(count)]
     opened = [descriptors(mounted.server) for mounted in mounts]
     readers = [reader(mounted, files, number) for mounted in mounts for number in range(READERS)]
     for child in readers:
@@ -73,6 +73,11 @@ def crowded(room, count):
         count, len(readers), most, max(opened))
 
 
+def mounted_next(room, images):
+    go_on()
+    return room.mount(images)
+
+
 def reader(mounted, files, number):
     """A process that reads all files some times, in an order of its own; its status is 0 where all data are right."""
     child = os.fork()
@@ -81,10 +86,15 @@ def reader(mounted, files, number):
         try:
             names = list(files)
             random.Random(number).shuffle(names)
-            status = 0 if all(is_right(mounted, name, files[name]) for _ in range(ROUNDS) for name in names) else 2
+            status = 0 if all(all_right(mounted, names, files) for _ in range(ROUNDS)) else 2
         finally:
             os._exit(status)
     return child
+
+
+def all_right(mounted, names, files):
+    go_on()
+    return all(is_right(mounted, name, files[name]) for name in names)
 
 
 def is_right(mounted, name, data):
@@ -107,7 +117,7 @@ def own_memory(process):
 
 def again(program, folder, count):
     """This many mounts one after another, each looked at and unmounted."""
-    return inside(program, folder, 60 + count, lambda room: mounted_again(room, count))
+    return inside(program, folder, lambda room: mounted_again(room, count))
 
 
 def mounted_again(room, count):
@@ -115,7 +125,7 @@ def mounted_again(room, count):
     images, name = image_of(room, files), max(files)
     before, own = places(), descriptors(os.getpid())
     for _ in range(count):
-        mounted = room.mount(images)
+        mounted = mounted_next(room, images)
         hold("data", True, is_right(mounted, name, files[name]))
         mounted.end()
     hold("what is mounted", before, places())
@@ -128,7 +138,7 @@ def mounted_again(room, count):
 
 def readers(program, folder, seconds):
     """Processes that read, walk and ask in a mount of several readers, and are killed in all they do."""
-    return inside(program, folder, int(seconds) + 60, lambda room: killed_in(room, seconds))
+    return inside(program, folder, lambda room: killed_in(room, seconds))
 
 
 def killed_in(room, seconds):
@@ -137,6 +147,7 @@ def killed_in(room, seconds):
     opened, memory = descriptors(mounted.server), Memory(mounted.server, seconds)
     busy = [user(mounted, files, number) for number in range(BUSY)]
     while not memory.is_over():
+        go_on()
         time.sleep(rng.uniform(0, 0.05))
         end_user(busy.pop(rng.randrange(BUSY)))
         killed += 1
@@ -186,7 +197,7 @@ class Counts:
 
 def failing(program, folder, seconds):
     """Processes that read and ask in a mount whose image fails, waits, and tells few or other bytes, by turns."""
-    return inside(program, folder, int(seconds) + 60, lambda room: failed_over(room, seconds))
+    return inside(program, folder, lambda room: failed_over(room, seconds))
 
 
 def failed_over(room, seconds):
@@ -198,6 +209,7 @@ def failed_over(room, seconds):
     opened, memory, counts = descriptors(mounted.server), Memory(mounted.server, seconds), Counts(READERS)
     asking = [asker(mounted, files, number, counts) for number in range(READERS)]
     while not memory.is_over():
+        go_on()
         first = rng.randrange(len(disk.data))
         disk.order(rng.choice([SERVE, WAIT, FAIL, CUT, TURN]), first, first + rng.choice([1, 4096, 1 << 20, 1 << 40]))
         time.sleep(rng.uniform(0, 0.1))

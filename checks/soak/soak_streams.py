@@ -11,7 +11,7 @@ from checks.plain.plain_replies import Session
 from checks.shared import mounting, random_inputs
 from checks.shared.build import init
 from checks.shared.images import Item, flat
-from checks.shared.mounting import Failed, LeftOut, Room, apart, hold, try_mount
+from checks.shared.mounting import Failed, LeftOut, Room, apart, go_on, hold, try_mount
 from checks.shared.runs import MINUTE
 from strata_mount.device import DEVICE
 
@@ -73,11 +73,15 @@ class Client:
 
     def ask(self, sink, source):
         """Some requests, written to a descriptor while the replies are read from another."""
-        messages = [init(self.unique, flags=random_inputs.random_flags(self.rng))] * (not self.session.ready)
+        messages, wanted = [], b""
         for _ in range(self.rng.choice([1, 10, 300])):
             self.unique += 1
-            messages.append(random_inputs.random_message(self.rng, self.unique, self.stack))
-        wanted = b"".join(self.session.reply(message) for message in messages)
+            # a DESTROY ends the session soon: few requests come before the next one begins
+            if not self.session.ready and self.rng.random() < 0.5:
+                messages.append(init(self.unique, flags=random_inputs.random_flags(self.rng)))
+            else:
+                messages.append(random_inputs.random_message(self.rng, self.unique, self.stack))
+            wanted += self.session.reply(messages[-1])
         writing = threading.Thread(target=try_to_write, args=(sink, b"".join(messages)))
         writing.start()
         got = read_whole(source, len(wanted))
@@ -143,7 +147,6 @@ def mount(program, folder, seconds):
     if b"unexpected argument" in usage.stderr:
         raise LeftOut("the program serves no %s" % DEVICE)
     mounting.adopt()
-    mounting.SECONDS = (int(seconds) + 60) * mounting.SLOWER
     told = apart(lambda: called_at_random(Room(program, folder), seconds))
     if told.startswith("FAILED: "):
         raise Failed(told[8:])
@@ -158,6 +161,7 @@ def called_at_random(room, seconds):
     mounted = room.mount([room.layer(items), room.write(flat(b"v", [(name, False, data) for name, data in files.items()]))])
     memory, calls = Memory(mounted.server, seconds), 0
     while not memory.is_over():
+        go_on()
         for _ in range(100):
             call_once(rng, mounted, files)
             calls += 1
