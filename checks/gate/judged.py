@@ -8,6 +8,7 @@ ERROR = re.compile(r"(?:\./)?((?:src|specs|proofs)/\S+):(\d+):\d+: error\S* (.*)
 AT_NAME = "only at a name"
 # a proof that names what is not there, and what cites that proof
 NAMES = re.compile(r"has no field|is not in scope|has no `|was not admitted")
+HEAD = re.compile(r"(?m)^impl\b[^{]*\{")
 IMPL = re.compile(r"impl(?:<.*?>)? (?:(?:\w+::)*(\w+)(?:<(.*)>)? for )?&?(?:'\w+ )?(\w+)")
 TYPE = re.compile(r"(?m)^(?:pub(?:\([a-z]+\))? )?(?:struct|enum|trait|type) (\w+)")
 
@@ -31,15 +32,20 @@ def place_of(file):
     return [] if parts in (["lib"], ["main"]) else parts
 
 
+def heads_of(text):
+    """The heads `impl .. {` of a file, each as one line; an arrow's > would seem to end what stands between < and >."""
+    return [" ".join(it.replace("->", "").split()) for it in HEAD.findall(text)]
+
+
 def owner_of(head):
-    """The type that a line `impl .. {` is about, and what it and its trait are called in names of functions."""
+    """The type that a head `impl .. {` is about, and what it and its trait are called in names of functions."""
     trait, source, kind = IMPL.match(head).groups()
     return kind, kind + (trait or "") + (source if trait == "From" else "")
 
 
 def elsewhere(text):
     """What types of other modules, which have methods in a file, are called in names of functions: their modules come before."""
-    owners = map(owner_of, filter(IMPL.match, text.split("\n")))
+    owners = map(owner_of, heads_of(text))
     return {owner for kind, owner in owners if kind not in TYPE.findall(text)}
 
 

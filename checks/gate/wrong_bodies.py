@@ -10,7 +10,8 @@ as refused where a goal of its own function is not proved, or its own written an
 What no batch shows refused is tried alone. An edit of anything else than a body, as a constant, has a line `by: NAME`
 of the function that is then wrong. Its file may be of a crate below (`file: ../CRATE/specs/..`), if a law here judges
 that: the crates from there on are proved anew first. --others tries those of trials/CRATE.edits instead, which `make
-trials` tries over what `make kept` kept, but for those of crates below; --only tries those of these names alone.
+trials` tries over what `make kept` kept, but for those of crates below; it leaves those of no body that have no such
+line, by name. --only tries those of these names alone.
 
 A line tells of each edit at what it was refused. The status is 0 where all were.
 """
@@ -27,11 +28,11 @@ import time
 
 from checks import ROOT
 from checks.gate.crates import crates_below, crates_used
-from checks.gate.judged import AT_NAME, Said, elsewhere, owner_of, place_of, refusals
+from checks.gate.judged import AT_NAME, Said, elsewhere, heads_of, owner_of, place_of, refusals
 from checks.gate.kit import Kit
 from checks.gate.trial_edits import Edit, Misfit, batches_of, bodies_of, together, written_in
 
-MOST = 6
+GATE, MOST = "trials/gate", 6
 BY = re.compile(r"(?m)^by: *(\S+)\n")
 # of some arguments of a type alone; the name of such a function says them
 OF_ARGUMENTS = re.compile(r"impl(?:<.*?>)? \w+<[^>]*<")
@@ -55,10 +56,10 @@ def name_of(file, text, body):
     """The name that a check gives to a function, by its path in the crate, or the end of that: a method is of its type's module."""
     lines = text.split("\n")
     if lines[body.opens].startswith(" ") or lines[body.first].startswith(" "):
-        heads = [line for line in lines[:body.first] if line.startswith("impl")]
-        if OF_ARGUMENTS.match(heads[-1]):
+        head = heads_of("\n".join(lines[:body.first]))[-1]
+        if OF_ARGUMENTS.match(head):
             return body.name
-        _, owner = owner_of(heads[-1])
+        _, owner = owner_of(head)
         return "::".join([*([] if owner in elsewhere(text) else place_of(file)), owner, body.name])
     return "::".join([*place_of(file), body.name])
 
@@ -132,9 +133,12 @@ def batches(place, crate, only, room):
         edits = [Edit(name, text, folder) for name, text in edits_at(place, crate).items() if name in only or not only]
     except Misfit as why:
         sys.exit("%s/%s.edits: %s" % (place, crate, why))
-    lost = [it.name for it in edits if not it.changes and not BY.search(it.written)]
-    if lost:
-        sys.exit("%s/%s.edits: %s changes no body and has no line by:" % (place, crate, lost[0]))
+    lost = [it for it in edits if not it.changes and not BY.search(it.written)]
+    if lost and place == GATE:
+        sys.exit("%s/%s.edits: %s changes no body and has no line by:" % (place, crate, lost[0].name))
+    for it in lost:
+        print("left to make trials, which checks the whole crate: %s/%s" % (crate, it.name))
+        edits.remove(it)
     groups = batches_of([it for it in edits if it.changes], MOST) + [[it] for it in edits if not it.changes]
     return [Tried(crate, group, room) for group in groups]
 
@@ -166,7 +170,7 @@ def main(words):
     wanted.add_argument("--only", action="append", default=[], metavar="NAME", help="the edit of this name")
     wanted.add_argument("--jobs", type=int, default=len(os.sched_getaffinity(0)), help="the checks at a time")
     given = wanted.parse_args(words)
-    place = "trials" if given.others else "trials/gate"
+    place = "trials" if given.others else GATE
     there = sorted(os.path.basename(it)[:-len(".edits")] for it in glob.glob("%s/%s/*.edits" % (ROOT, place)))
     unknown = [name for name in given.crates if name not in there] + [name for name in there if name not in crates_used()]
     if unknown:

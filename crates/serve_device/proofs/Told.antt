@@ -1,5 +1,5 @@
 -- The last answer of a device, from the result of a push or a pull.
-use Rattle.std.proofs.Common.{◌≡◌, ◌==◌, ◌∙◌, ◌+◌, ◌^◌, ◌<◌, ◌≤◌, sym, ap, eqb-true, arith, refl, ℕ, ℤ, pos, negsuc, Bool, true, false, if◌then◌else◌, ◌⊎◌, inl, inr, List, Option, Some, None, Result, Ok, Err}
+use Rattle.std.proofs.Common.{◌≡◌, ◌==◌, ◌∙◌, ◌+◌, ◌^◌, ◌<◌, ◌≤◌, sym, ap, subst, eqb-true, length-take-le, arith, refl, ℕ, ℤ, pos, negsuc, Bool, true, false, if◌then◌else◌, ◌⊎◌, inl, inr, List, Option, Some, None, Result, Ok, Err}
 use Rattle.devices.specs.Counting.{held_sum, up}
 use Rattle.devices.specs.declared.failed.Failed.{Failed}
 use Rattle.serve_device.specs.declared.answer.Answer.{Answer}
@@ -7,7 +7,7 @@ use Rattle.serve_device.specs.declared.answer.Answer.TheVariants.{Bytes, Failure
 use Rattle.serve_device.specs.declared.trouble.Trouble.{Trouble}
 use Rattle.serve_device.specs.declared.trouble.Trouble.TheVariants.{Again, Unwanted, Gone, Fault}
 use Rattle.serve_device.specs.Answers.{as_failed, asks_again, is_again}
-use Rattle.serve_device.specs.FirstReply.{PutsReply, Writes, after_trouble, after_write}
+use Rattle.serve_device.specs.FirstReply.{BeginsReply, PutsReply, Writes, after_trouble, after_write}
 use Rattle.serve_device.specs.Reads.{HasGivenUp, PullsMessage, ReaderState, after_read, settled_after, spent_trouble}
 use Rattle.serve_device.specs.Troubles.{gone_after, read_trouble, write_trouble}
 use Rattle.serve_device.specs.Writes.{WriterState}
@@ -79,15 +79,18 @@ done_by n len (Failure number) outcome e r = inr (ap Failure (unwanted number (b
     by_trouble Fault (Ok m) e r = absurd (cc)
     by_trouble Fault (Err t) e r = absurd (cc)
 
--- a push that succeeded wrote, and the write took this much or returned ENOENT
+-- a push that succeeded wrote the whole reply, and the write took this much or returned ENOENT
 pub done_push : (bytes : List ℕ) (n : ℕ) (old new : WriterState) (was is : Bool) → PutsReply bytes (Ok n) old new was is
-    → (new.writes ≡ up old.writes) × ((new.last ≡ Some (Bytes n)) ⊎ (new.last ≡ Some (Failure (Some (pos 2)))))
+    → (new.writes ≡ up old.writes) × BeginsReply bytes new.offered × ((new.last ≡ Some (Bytes n)) ⊎ (new.last ≡ Some (Failure (Some (pos 2)))))
 done_push bytes n old new was is p = go p.writes
   where
     go : Writes bytes p.outcome old new
-        → (new.writes ≡ up old.writes) × ((new.last ≡ Some (Bytes n)) ⊎ (new.last ≡ Some (Failure (Some (pos 2)))))
-    go (inl w) = (w.wrote.counted, last_by (done_by n w.n w.answer p.outcome w.outcome_is p.result_is))
+        → (new.writes ≡ up old.writes) × BeginsReply bytes new.offered × ((new.last ≡ Some (Bytes n)) ⊎ (new.last ≡ Some (Failure (Some (pos 2)))))
+    go (inl w) = (w.wrote.counted, whole, last_by (done_by n w.n w.answer p.outcome w.outcome_is p.result_is))
       where
+        whole : BeginsReply bytes new.offered
+        whole = subst (λ k. BeginsReply bytes k) (sym (w.wrote.offered ∙ length-take-le w.n bytes w.begins.whole)) w.begins
+
         last_by : (w.answer ≡ Bytes n) ⊎ (w.answer ≡ Failure (Some (pos 2)))
             → (new.last ≡ Some (Bytes n)) ⊎ (new.last ≡ Some (Failure (Some (pos 2))))
         last_by (inl e) = inl (w.wrote.last ∙ ap Some e)

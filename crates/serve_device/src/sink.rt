@@ -42,7 +42,7 @@ impl<W: Write> ReplySpout<W> {
         ensures over { writer_of result ≡ writer }
         ensures there { spout_gone result ≡ false }
         ensures unwritten { spout_writer W.contents result
-            ≡ writer_state (W.contents writer) 0 None }
+            ≡ writer_state (W.contents writer) 0 0 None }
     {
         ReplySpout {
             writer: NotedWriter::new(writer),
@@ -97,6 +97,8 @@ impl<W: Write> Sink for ReplySpout<W> {
             ≡ flushed (⟦<ReplySpout<W> as Sink>⟧.state self.old).counts result }
         ensures writes { (spout_writer W.contents self.new).writes
             ≡ (spout_writer W.contents self.old).writes }
+        ensures offered { (spout_writer W.contents self.new).offered
+            ≡ (spout_writer W.contents self.old).offered }
         ensures last { (spout_writer W.contents self.new).last
             ≡ (spout_writer W.contents self.old).last }
         ensures gone { spout_gone self.new ≡ spout_gone self.old }

@@ -15,12 +15,14 @@ pub fn within_one_reply()
         IsWithinFirst bytes taken → BeginsReply bytes n → taken ≤ n }
 {}
 
-/// A push that counts bytes as taken wrote once: the writer took this many, or returned ENOENT (2).
-/// If it leaves its sink gone, the writer returned ENODEV (19).
+/// A push that counts bytes as taken wrote once: the writer was given the whole first reply, and took
+/// this many bytes, or returned ENOENT (2). If a push leaves its sink gone, the writer returned
+/// ENODEV (19).
 #[tactic(auto, using(crate::proofs::Told::done_push, crate::proofs::Told::gone_push))]
 pub fn pushes_write()
     ensures taken { (bytes : List ℕ) (n : ℕ) (old new : WriterState) (was is : Bool) →
         PutsReply bytes (Ok n) old new was is → (new.writes ≡ up old.writes)
+        × BeginsReply bytes new.offered
         × ((new.last ≡ Some (Bytes n)) ⊎ (new.last ≡ Some (Failure (Some (pos 2))))) }
     ensures gone { (bytes : List ℕ) (result : Result ℕ Failed) (old new : WriterState) →
         PutsReply bytes result old new false true → new.last ≡ Some (Failure (Some (pos 19))) }
