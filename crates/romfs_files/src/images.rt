@@ -74,12 +74,12 @@ impl<T: Drop> From<AllocFailed<T>> for FilesFault {
 /// At most four parts of a long list are read at the same time. The lowest file that cannot be read
 /// is reported, or `Memory` if memory ran out before it; no clause says that it is the lowest.
 /// `Unread` if a file cannot be opened, for example because too many are open. Without a digest,
-/// `Unread` also if a read fails or gives fewer bytes than the file reported, or if a device reports
-/// no end; `Far` if a trailer that is read ends at 2^32 or beyond, and not all bytes are read. A
-/// full size beyond the end of the file is no fault here. Under a digest, `Unsealed` if the image or
-/// its tree is not the one that the digest names, or cannot be read, or if the image has 2^33 bytes
-/// or more; `Far` only if a trailer that is read ends there in the named file. No byte of a pipe is
-/// read under a digest.
+/// `Unread` also if a read fails or gives fewer bytes than the file reported, or if a device
+/// reports no end; `Far` if a trailer that is read ends at 2^32 or beyond, and not all bytes are
+/// read. A full size beyond the end of the file is no fault here. Under a digest, `Unsealed` if the
+/// image or its tree is not the one that the digest names, or cannot be read, or if the image has
+/// 2^33 bytes or more; `Far` only if a trailer that is read ends there in the named file. No byte
+/// of a pipe is read under a digest.
 pub fn load<R: Files + Threads + Sync, A: Allocator + Copy + Send + Sync>(
     rt: &R,
     alloc: A,

@@ -81,11 +81,13 @@ done_by n len (Failure number) outcome e r = inr (ap Failure (unwanted number (b
 
 -- a push that succeeded wrote the whole reply, and the write took this much or returned ENOENT
 pub done_push : (bytes : List ℕ) (n : ℕ) (old new : WriterState) (was is : Bool) → PutsReply bytes (Ok n) old new was is
-    → (new.writes ≡ up old.writes) × BeginsReply bytes new.offered × ((new.last ≡ Some (Bytes n)) ⊎ (new.last ≡ Some (Failure (Some (pos 2)))))
+    → (new.writes ≡ up old.writes) × BeginsReply bytes new.offered
+    × ((new.last ≡ Some (Bytes n)) ⊎ (new.last ≡ Some (Failure (Some (pos 2)))))
 done_push bytes n old new was is p = go p.writes
   where
     go : Writes bytes p.outcome old new
-        → (new.writes ≡ up old.writes) × BeginsReply bytes new.offered × ((new.last ≡ Some (Bytes n)) ⊎ (new.last ≡ Some (Failure (Some (pos 2)))))
+        → (new.writes ≡ up old.writes) × BeginsReply bytes new.offered
+        × ((new.last ≡ Some (Bytes n)) ⊎ (new.last ≡ Some (Failure (Some (pos 2)))))
     go (inl w) = (w.wrote.counted, whole, last_by (done_by n w.n w.answer p.outcome w.outcome_is p.result_is))
       where
         whole : BeginsReply bytes new.offered

@@ -11,6 +11,7 @@ spout_gone spout = spout.gone
 abbrev pub writer_of : {W : Type 0} → ReplySpout W → W
 writer_of spout = inner_writer spout.writer
 
--- what its writer holds, how many writes were made, how many bytes the last was given, and its result
+-- what its writer holds, how many writes were made, how many bytes the last was given, and its
+-- result
 abbrev pub spout_writer : {W : Type 0} → (W → Option (List ℕ)) → ReplySpout W → WriterState
 spout_writer contents spout = noted_writer contents spout.writer

@@ -6,8 +6,8 @@ use Rattle.serve_device.specs.declared.answer.Answer.{Answer}
 use Rattle.serve_device.specs.declared.answer.Answer.TheVariants.{Bytes, Failure}
 use Rattle.serve_device.specs.declared.noted_writer.NotedWriter.{NotedWriter}
 
--- what it holds, if that is known, how many writes were made, how many bytes the last was given, and
--- its result
+-- what it holds, if that is known, how many writes were made, how many bytes the last was given,
+-- and its result
 pub record WriterState : Type 0 where
   pub held : Option (List ℕ)
   pub writes : ℕ

@@ -15,9 +15,9 @@ pub fn within_one_reply()
         IsWithinFirst bytes taken → BeginsReply bytes n → taken ≤ n }
 {}
 
-/// A push that counts bytes as taken wrote once: the writer was given the whole first reply, and took
-/// this many bytes, or returned ENOENT (2). If a push leaves its sink gone, the writer returned
-/// ENODEV (19).
+/// A push that counts bytes as taken wrote once: the writer was given the whole first reply, and
+/// took this many bytes, or returned ENOENT (2). If a push leaves its sink gone, the writer
+/// returned ENODEV (19).
 #[tactic(auto, using(crate::proofs::Told::done_push, crate::proofs::Told::gone_push))]
 pub fn pushes_write()
     ensures taken { (bytes : List ℕ) (n : ℕ) (old new : WriterState) (was is : Bool) →
