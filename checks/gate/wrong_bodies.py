@@ -11,7 +11,7 @@ What no batch shows refused is tried alone. An edit of anything else than a body
 of the function that is then wrong. Its file may be of a crate below (`file: ../CRATE/specs/..`), if a law here judges
 that: the crates from there on are proved anew first. --others tries those of trials/CRATE.edits instead, which `make
 trials` tries over what `make kept` kept, but for those of crates below; it leaves those of no body that have no such
-line, by name. --only tries those of these names alone.
+line, by name. --only tries those of these names alone. Where no CRATE is named, all edits of trials/ must apply, too.
 
 A line tells of each edit at what it was refused. The status is 0 where all were.
 """
@@ -126,13 +126,18 @@ class Tried:
         return outcomes
 
 
-def batches(place, crate, only, room):
-    """The edits of a crate in batches, those of something else than bodies alone."""
+def edits_of(place, crate, only=()):
+    """The edits of a crate, each of which must apply; those of these names alone, if there are any."""
     folder = "%s/crates/%s" % (ROOT, crate)
     try:
-        edits = [Edit(name, text, folder) for name, text in edits_at(place, crate).items() if name in only or not only]
+        return [Edit(name, text, folder) for name, text in edits_at(place, crate).items() if name in only or not only]
     except Misfit as why:
         sys.exit("%s/%s.edits: %s" % (place, crate, why))
+
+
+def batches(place, crate, only, room):
+    """The edits of a crate in batches, those of something else than bodies alone."""
+    edits = edits_of(place, crate, only)
     lost = [it for it in edits if not it.changes and not BY.search(it.written)]
     if lost and place == GATE:
         sys.exit("%s/%s.edits: %s changes no body and has no line by:" % (place, crate, lost[0].name))
@@ -141,6 +146,11 @@ def batches(place, crate, only, room):
         edits.remove(it)
     groups = batches_of([it for it in edits if it.changes], MOST) + [[it] for it in edits if not it.changes]
     return [Tried(crate, group, room) for group in groups]
+
+
+def crates_with(place):
+    """The crates that have edits there."""
+    return sorted(os.path.basename(it)[:-len(".edits")] for it in glob.glob("%s/%s/*.edits" % (ROOT, place)))
 
 
 def lines_of(crate):
@@ -171,10 +181,12 @@ def main(words):
     wanted.add_argument("--jobs", type=int, default=len(os.sched_getaffinity(0)), help="the checks at a time")
     given = wanted.parse_args(words)
     place = "trials" if given.others else GATE
-    there = sorted(os.path.basename(it)[:-len(".edits")] for it in glob.glob("%s/%s/*.edits" % (ROOT, place)))
+    there = crates_with(place)
     unknown = [name for name in given.crates if name not in there] + [name for name in there if name not in crates_used()]
     if unknown:
         sys.exit("no wrong bodies of %s" % ", ".join(unknown))
+    for crate in () if given.crates else crates_with("trials"):
+        edits_of("trials", crate)
     crates, below = given.crates or there, crates_below()
     with tempfile.TemporaryDirectory(prefix="proved-") as room:
         for name in sorted({other for crate in crates for other in below[crate]}):
